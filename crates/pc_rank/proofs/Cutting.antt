@@ -76,7 +76,6 @@ wordy (token.Given fact.Ran) h e = is_word _ (omega arith) refl
 wordy (token.Given fact.Thread) h e = is_word _ (omega arith) refl
 wordy (token.Given fact.Cpu) h e = is_word _ (omega arith) refl
 wordy (token.Given fact.Allowed) h e = is_word _ (omega arith) refl
-wordy (token.Given fact.Messages) h e = is_word _ (omega arith) refl
 wordy token.NoRank h e = is_word _ (omega arith) refl
 wordy token.If h e = is_word _ (omega arith) refl
 wordy token.Then h e = is_word _ (omega arith) refl
@@ -171,8 +170,7 @@ fact_sound word =
     pick word (codes "thread") (token.Given fact.Thread) _ tt refl refl (
     pick word (codes "cpu") (token.Given fact.Cpu) _ tt refl refl (
     pick word (codes "allowed") (token.Given fact.Allowed) _ tt refl refl (
-    pick word (codes "messages") (token.Given fact.Messages) _ tt refl refl (
-    pick word (codes "none") token.NoRank token.Unknown tt refl refl (refl, (λ h. absurd h))))))))
+    pick word (codes "none") token.NoRank token.Unknown tt refl refl (refl, (λ h. absurd h)))))))
 
 word_sound : (word : List ℕ) → Sound word (word_named word)
 word_sound word =
@@ -198,7 +196,6 @@ named_only (token.Given fact.Ran) e = refl
 named_only (token.Given fact.Thread) e = refl
 named_only (token.Given fact.Cpu) e = refl
 named_only (token.Given fact.Allowed) e = refl
-named_only (token.Given fact.Messages) e = refl
 named_only token.NoRank e = refl
 named_only token.If e = refl
 named_only token.Then e = refl
@@ -224,7 +221,6 @@ name_first (token.Given fact.Ran) e h = omega (arith, h)
 name_first (token.Given fact.Thread) e h = omega (arith, h)
 name_first (token.Given fact.Cpu) e h = omega (arith, h)
 name_first (token.Given fact.Allowed) e h = omega (arith, h)
-name_first (token.Given fact.Messages) e h = omega (arith, h)
 name_first token.NoRank e h = omega (arith, h)
 name_first token.If e h = omega (arith, h)
 name_first token.Then e h = omega (arith, h)

@@ -7,3 +7,12 @@ pub mod Texts
 pub mod Unique
 pub mod Canonical
 pub mod Spelling
+pub mod Nodes
+pub mod Stacks
+pub mod Weights
+pub mod Before
+pub mod Ends
+pub mod Sizes
+pub mod Laid
+pub mod Room
+pub mod Neat

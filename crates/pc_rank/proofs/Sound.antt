@@ -4,7 +4,8 @@ use Rattle.std.proofs.lemmas.List.{append-nil}
 use Rattle.pc_rank.specs.Expressions.{Tree, Condition}
 use Rattle.pc_rank.specs.Expressions as tree
 use Rattle.pc_rank.specs.Grammar.{IsExpression, IsSum, IsChain, IsTerm, IsTest, IsJoined, plain, choice, single, chain, two, last, more, number, given, no_rank, group, call, compare, join, negate, last_test, more_tests}
-use Rattle.pc_rank.specs.Inner.Reading.{Found, Rank, Test, ◌>>=◌, Readers, halt, lead_of, next_lead, operator_of, next_operator, joiner_of, next_joiner, comparison_of, next_comparison, is_wanted, behind, meets, mixes, as_rank, rank_in, as_test, test_in, choice_in, call_in, group_in, term_of, term_in, ended, ended_of, chain_in, two_in, infix_in, after_of, after_in, sum_in, compared_of, compared_in, grouped_in, more_in, joined_of, joined_in, opened_of, opened_in, either_of, either_in, expression_of, expression_in, tested_of, tested_in, tests_in, part_in, part_at, whole, whole_of}
+use Rattle.pc_rank.specs.Nodes.{Found, Rank, Test}
+use Rattle.pc_rank.specs.Inner.Reading.{◌>>=◌, Readers, halt, lead_of, next_lead, operator_of, next_operator, joiner_of, next_joiner, comparison_of, next_comparison, is_wanted, behind, meets, mixes, as_rank, rank_in, as_test, test_in, choice_in, call_in, group_in, term_of, term_in, ended, ended_of, chain_in, two_in, infix_in, after_of, after_in, sum_in, compared_of, compared_in, grouped_in, more_in, joined_of, joined_in, opened_of, opened_in, either_of, either_in, expression_of, expression_in, tested_of, tested_in, tests_in, part_in, part_at, whole, whole_of}
 use Rattle.pc_rank.specs.Texts.{is_joiner, is_operator, may_chain}
 use Rattle.pc_rank.specs.declared.fault.Wanted.{Wanted}
 use Rattle.pc_rank.specs.declared.fault.Wanted.TheVariants as wanted

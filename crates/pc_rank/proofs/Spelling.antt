@@ -21,7 +21,7 @@ use Rattle.pc_rank.proofs.Complete.{no_chain, no_expression, no_test, no_tests}
 -- ---- small numbers
 
 abbrev mutual
-  Small : Tree → Type 0
+  pub Small : Tree → Type 0
   Small (tree.Number k) = k < 2 ^ 64
   Small (tree.Given f) = Unit {0}
   Small tree.NoRank = Unit {0}
@@ -29,7 +29,7 @@ abbrev mutual
   Small (tree.Call x a b) = Small a × Small b
   Small (tree.Choice q a b) = SmallTest q × Small a × Small b
 
-  SmallTest : Condition → Type 0
+  pub SmallTest : Condition → Type 0
   SmallTest (tree.Compare c a b) = Small a × Small b
   SmallTest (tree.Join j p q) = SmallTest p × SmallTest q
   SmallTest (tree.Negate p) = SmallTest p
@@ -225,11 +225,16 @@ mutual
       (join_writes j (grouped true (test_text p)) _ (in_group true (tokens_of_test p)) _ (group_writes (test_text p) (tokens_of_test p) true (test_writes p small.0)) (group_writes _ _ (not (is_joined_on j q)) (test_writes q small.1)) rest us apart s)
   test_writes (tree.Negate p) small rest us apart s = negate_writes (grouped true (test_text p)) (in_group true (tokens_of_test p)) (group_writes (test_text p) (tokens_of_test p) true (test_writes p small)) rest us apart s
 
-pub text_is_read : (text : List ℕ) (a : Tree) → IsText text a → IsText (text_of a) a
-text_is_read text a h =
-    let small = (all_small 16).expressions h.tokens a h.derived (tokens_spelled h.spelled) in
+pub text_is_small : (text : List ℕ) (a : Tree) → IsText text a → Small a
+text_is_small text a h = (all_small 16).expressions h.tokens a h.derived (tokens_spelled h.spelled)
+
+pub small_is_read : (a : Tree) → Small a → IsExpression 16 (tokens_of a) a → IsText (text_of a) a
+small_is_read a small derived =
     record {
       tokens = tokens_of a;
       spelled = subst (λ w. Spells w (tokens_of a)) (append-nil (text_of a)) (subst (Spells (text_of a ++ [])) (append-nil (tokens_of a)) (tree_writes a small [] [] refl done));
-      derived = written_is_derived 16 h.tokens a h.derived;
+      derived = derived;
     }
+
+pub text_is_read : (text : List ℕ) (a : Tree) → IsText text a → IsText (text_of a) a
+text_is_read text a h = small_is_read a (text_is_small text a h) (written_is_derived 16 h.tokens a h.derived)

@@ -22,7 +22,6 @@ fact_in facts fact.Ran = facts.ran
 fact_in facts fact.Thread = facts.thread
 fact_in facts fact.Cpu = facts.cpu
 fact_in facts fact.Allowed = facts.allowed
-fact_in facts fact.Messages = facts.messages
 
 -- no number is above this one
 abbrev pub greatest : ℕ

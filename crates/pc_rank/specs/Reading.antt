@@ -1,8 +1,9 @@
 -- Which expression a text has, and what a reader may answer.
-use Rattle.std.specs.Prelude.{ℕ, ◌+◌, ◌<◌, List, length}
+use Rattle.std.specs.Prelude.{ℕ, ◌+◌, ◌<◌, ◌≤◌, ◌⊎◌, List, length}
 use Rattle.pc_rank.specs.Expressions.{Tree, Condition}
 use Rattle.pc_rank.specs.Expressions as tree
 use Rattle.pc_rank.specs.Grammar.{IsExpression}
+use Rattle.pc_rank.specs.Texts.{text_of}
 use Rattle.pc_rank.specs.Tokens.{Spells}
 use Rattle.pc_rank.specs.declared.fault.RankFault.{RankFault}
 use Rattle.pc_rank.specs.declared.fault.RankFault.TheVariants as fault
@@ -30,11 +31,16 @@ pub record IsText (text : List ℕ) (a : Tree) : Type 0 where
   pub spelled : Spells text tokens
   pub derived : IsExpression 16 tokens a
 
--- Why no expression was read: the text is past 512 bytes, or of no expression up to 64 nodes, or of none at all, or
--- memory ran out
+-- what is written of an expression is a text of it that is read: 512 bytes at most, and 64 nodes
+pub record IsReadable (a : Tree) : Type 0 where
+  pub text : IsText (text_of a) a
+  pub short : length (text_of a) ≤ 512
+  pub few : nodes a ≤ 64
+
+-- Why no expression was read: the text is past 512 bytes, or would be written in more, or is of no expression up to 64
+-- nodes, or of none at all
 abbrev pub Refuses : List ℕ → RankFault → Type 0
-Refuses text fault.TooLong = 512 < length text
+Refuses text fault.TooLong = (512 < length text) ⊎ ((a : Tree) → IsText text a → 512 < length (text_of a))
 Refuses text (fault.TooManyNodes at) = (a : Tree) → IsText text a → 64 < nodes a
 Refuses text (fault.TooDeep at) = (a : Tree) → IsText text a → ⊥
 Refuses text (fault.Wanted at wanted) = (a : Tree) → IsText text a → ⊥
-Refuses text fault.OutOfMemory = Unit {0}

@@ -22,7 +22,6 @@ fact_word fact.Ran = codes "ran"
 fact_word fact.Thread = codes "thread"
 fact_word fact.Cpu = codes "cpu"
 fact_word fact.Allowed = codes "allowed"
-fact_word fact.Messages = codes "messages"
 
 -- the words for the lesser and the greater of two
 abbrev pub extreme_word : Extreme → List ℕ

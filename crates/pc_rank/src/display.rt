@@ -1,14 +1,15 @@
 //! Texts of expressions.
 
 ghost use Rattle.std.specs.Fmt.{WritesOnOk};
+ghost use Rattle.pc_rank.specs.Expressions as tree;
+ghost use Rattle.pc_rank.specs.Inner.Ends.{AtExpression, AtTest, AtTwo};
 ghost use Rattle.pc_rank.specs.Texts.{grouped, test_text, text_of};
-ghost use Rattle.pc_rank.specs.Trees.{test_of, tree_of};
 
+use crate::code::{Code, goes_on, is_choice, is_joined_on, is_loose};
 use crate::facts::Fact;
 use crate::operators::{Comparison, Extreme, Joiner, Operator};
-use crate::tree::{Node, Test};
+use crate::parts::before;
 use std::fmt;
-use std::fmt::Display;
 
 impl fmt::Display for Fact {
     ghost use Rattle.std.specs.Prelude.{Some};
@@ -23,7 +24,6 @@ impl fmt::Display for Fact {
             Fact::Thread => "thread",
             Fact::Cpu => "cpu",
             Fact::Allowed => "allowed",
-            Fact::Messages => "messages",
         })
     }
 }
@@ -91,103 +91,167 @@ impl fmt::Display for Comparison {
     }
 }
 
-/// Writes a part of an expression, in parentheses where they are wanted.
+/// Writes the expression at the end.
+#[cycle(display)]
+pub(crate) fn write_expression<W: fmt::Write>(
+    f: &mut fmt::Formatter<W>,
+    codes: &[Code],
+) -> fmt::Result
+    ensures { AtExpression codes.now (λ front a. WritesOnOk W.write_str_gives f.old result (text_of a) f.new) }
+{
+    let [front @ .., code] = codes else {
+        return Ok(());
+    };
+    match code {
+        Code::Number(number) => write!(f, "{number}"),
+        Code::Given(fact) => write!(f, "{fact}"),
+        Code::NoRank => f.write_str("none"),
+        Code::Infix(operator) => write_infix(f, *operator, front),
+        Code::Call(extreme) => write_call(f, *extreme, front),
+        Code::Choice => write_choice(f, front),
+        _ => Ok(()),
+    }
+}
+
+/// Writes the test at the end.
+#[cycle(display)]
+fn write_test<W: fmt::Write>(f: &mut fmt::Formatter<W>, codes: &[Code]) -> fmt::Result
+    ensures { AtTest codes.now (λ front a. WritesOnOk W.write_str_gives f.old result (test_text a) f.new) }
+{
+    let [front @ .., code] = codes else {
+        return Ok(());
+    };
+    match code {
+        Code::Compare(comparison) => write_compared(f, *comparison, front),
+        Code::Join(joiner) => write_joined(f, *joiner, front),
+        Code::Negate => write_negated(f, front),
+        _ => Ok(()),
+    }
+}
+
+/// Writes the expression at the end, in parentheses where they are wanted.
 #[cycle(display)]
 fn write_operand<W: fmt::Write>(
     f: &mut fmt::Formatter<W>,
     is_grouped: bool,
-    node: &Node,
+    codes: &[Code],
 ) -> fmt::Result
-    ensures { WritesOnOk W.write_str_gives f.old result (grouped is_grouped (text_of (tree_of node.now))) f.new }
+    ensures { AtExpression codes.now
+        (λ front a. WritesOnOk W.write_str_gives f.old result (grouped is_grouped (text_of a)) f.new) }
 {
     if is_grouped {
         f.write_str("(")?;
-        node.fmt(f)?;
+        write_expression(f, codes)?;
         f.write_str(")")
     } else {
-        node.fmt(f)
+        write_expression(f, codes)
     }
 }
 
-/// Writes a part of a test, in parentheses where they are wanted.
+/// Writes the test at the end, in parentheses where they are wanted.
 #[cycle(display)]
-fn write_test<W: fmt::Write>(
+fn write_grouped<W: fmt::Write>(
     f: &mut fmt::Formatter<W>,
     is_grouped: bool,
-    test: &Test,
+    codes: &[Code],
 ) -> fmt::Result
-    ensures { WritesOnOk W.write_str_gives f.old result (grouped is_grouped (test_text (test_of test.now))) f.new }
+    ensures { AtTest codes.now
+        (λ front a. WritesOnOk W.write_str_gives f.old result (grouped is_grouped (test_text a)) f.new) }
 {
     if is_grouped {
         f.write_str("(")?;
-        test.fmt(f)?;
+        write_test(f, codes)?;
         f.write_str(")")
     } else {
-        test.fmt(f)
+        write_test(f, codes)
     }
 }
 
-impl fmt::Display for Node {
-    ghost use Rattle.std.specs.Prelude.{Some};
-    ghost use Rattle.pc_rank.specs.Texts.{text_of};
-    ghost use Rattle.pc_rank.specs.Trees.{tree_of};
-
-    ghost output = { λ node. Some (text_of (tree_of node)) };
-
-    #[cycle(display)]
-    fn fmt<W: fmt::Write>(&self, f: &mut fmt::Formatter<W>) -> fmt::Result {
-        match self {
-            Node::Number(number) => write!(f, "{number}"),
-            Node::Given(fact) => write!(f, "{fact}"),
-            Node::NoRank => f.write_str("none"),
-            Node::Infix(operator, a, b) => {
-                write_operand(f, a.is_loose(), a)?;
-                write!(f, " {operator} ")?;
-                write_operand(f, b.is_loose() && !b.goes_on(*operator), b)
-            }
-            Node::Call(extreme, a, b) => {
-                write!(f, "{extreme}(")?;
-                (**a).fmt(f)?;
-                f.write_str(", ")?;
-                (**b).fmt(f)?;
-                f.write_str(")")
-            }
-            Node::Choice(test, a, b) => {
-                f.write_str("if ")?;
-                (**test).fmt(f)?;
-                f.write_str(" then ")?;
-                (**a).fmt(f)?;
-                f.write_str(" else ")?;
-                (**b).fmt(f)
-            }
-        }
-    }
+/// Writes the two expressions at the end, with an operator between them.
+#[cycle(display)]
+fn write_infix<W: fmt::Write>(
+    f: &mut fmt::Formatter<W>,
+    operator: Operator,
+    codes: &[Code],
+) -> fmt::Result
+    ensures { AtTwo codes.now
+        (λ front a b. WritesOnOk W.write_str_gives f.old result (text_of (tree.Infix operator a b)) f.new) }
+{
+    let first = before(codes);
+    write_operand(f, is_loose(first), first)?;
+    write!(f, " {operator} ")?;
+    write_operand(f, is_loose(codes) && !goes_on(operator, codes), codes)
 }
 
-impl fmt::Display for Test {
-    ghost use Rattle.std.specs.Prelude.{Some};
-    ghost use Rattle.pc_rank.specs.Texts.{test_text};
-    ghost use Rattle.pc_rank.specs.Trees.{test_of};
+/// Writes `min` or `max` of the two expressions at the end.
+#[cycle(display)]
+fn write_call<W: fmt::Write>(
+    f: &mut fmt::Formatter<W>,
+    extreme: Extreme,
+    codes: &[Code],
+) -> fmt::Result
+    ensures { AtTwo codes.now
+        (λ front a b. WritesOnOk W.write_str_gives f.old result (text_of (tree.Call extreme a b)) f.new) }
+{
+    write!(f, "{extreme}(")?;
+    write_expression(f, before(codes))?;
+    f.write_str(", ")?;
+    write_expression(f, codes)?;
+    f.write_str(")")
+}
 
-    ghost output = { λ test. Some (test_text (test_of test)) };
+/// Writes the choice between the two expressions at the end, by the test in front of them.
+#[cycle(display)]
+fn write_choice<W: fmt::Write>(f: &mut fmt::Formatter<W>, codes: &[Code]) -> fmt::Result
+    ensures { AtTwo codes.now (λ rest a b. AtTest rest
+        (λ front q. WritesOnOk W.write_str_gives f.old result (text_of (tree.Choice q a b)) f.new)) }
+{
+    let first = before(codes);
+    f.write_str("if ")?;
+    write_test(f, before(first))?;
+    f.write_str(" then ")?;
+    write_expression(f, first)?;
+    f.write_str(" else ")?;
+    write_expression(f, codes)
+}
 
-    #[cycle(display)]
-    fn fmt<W: fmt::Write>(&self, f: &mut fmt::Formatter<W>) -> fmt::Result {
-        match self {
-            Test::Compare(comparison, a, b) => {
-                write_operand(f, a.is_choice(), a)?;
-                write!(f, " {comparison} ")?;
-                write_operand(f, b.is_choice(), b)
-            }
-            Test::Join(joiner, a, b) => {
-                write_test(f, true, a)?;
-                write!(f, " {joiner} ")?;
-                write_test(f, !b.is_joined_on(*joiner), b)
-            }
-            Test::Negate(a) => {
-                f.write_str("not ")?;
-                write_test(f, true, a)
-            }
-        }
-    }
+/// Writes the two expressions at the end, with a comparison between them.
+#[cycle(display)]
+fn write_compared<W: fmt::Write>(
+    f: &mut fmt::Formatter<W>,
+    comparison: Comparison,
+    codes: &[Code],
+) -> fmt::Result
+    ensures { AtTwo codes.now
+        (λ front a b. WritesOnOk W.write_str_gives f.old result (test_text (tree.Compare comparison a b)) f.new) }
+{
+    let first = before(codes);
+    write_operand(f, is_choice(first), first)?;
+    write!(f, " {comparison} ")?;
+    write_operand(f, is_choice(codes), codes)
+}
+
+/// Writes the two tests at the end, with a word between them.
+#[cycle(display)]
+fn write_joined<W: fmt::Write>(
+    f: &mut fmt::Formatter<W>,
+    joiner: Joiner,
+    codes: &[Code],
+) -> fmt::Result
+    ensures { AtTest codes.now (λ rest q. AtTest rest
+        (λ front p. WritesOnOk W.write_str_gives f.old result (test_text (tree.Join joiner p q)) f.new)) }
+{
+    write_grouped(f, true, before(codes))?;
+    write!(f, " {joiner} ")?;
+    write_grouped(f, !is_joined_on(joiner, codes), codes)
+}
+
+/// Writes `not` of the test at the end.
+#[cycle(display)]
+fn write_negated<W: fmt::Write>(f: &mut fmt::Formatter<W>, codes: &[Code]) -> fmt::Result
+    ensures { AtTest codes.now
+        (λ front a. WritesOnOk W.write_str_gives f.old result (test_text (tree.Negate a)) f.new) }
+{
+    f.write_str("not ")?;
+    write_grouped(f, true, codes)
 }

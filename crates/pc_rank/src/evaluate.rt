@@ -1,56 +1,76 @@
 //! What an expression gives of a thread.
 
-ghost use Rattle.std.specs.Prelude.{◌≡◌};
-ghost use Rattle.pc_rank.specs.Meaning.{rank_by, holds_of};
-ghost use Rattle.pc_rank.specs.Trees.{tree_of, test_of};
+ghost use Rattle.std.specs.Prelude.{◌≡◌, ◌≤◌, length};
+ghost use Rattle.pc_rank.specs.Inner.Ends.{AtExpression, AtTest, AtTwo};
+ghost use Rattle.pc_rank.specs.Meaning.{holds_of, rank_by};
 
+use crate::code::Code;
 use crate::facts::Facts;
-use crate::tree::{Node, Test};
 
-/// The rank by this part of a tree.
+/// The rank by the expression at the end, and the codes in front of it.
 #[cycle(evaluate)]
-pub(crate) fn rank_of(node: &Node, facts: &Facts) -> Option<u64>
-    ensures { result ≡ rank_by (tree_of node.now) facts.now }
+pub(crate) fn rank_of<'a>(codes: &'a [Code], facts: &Facts) -> (Option<u64>, &'a [Code])
+    ensures shorter { length result.1.now ≤ length codes.now }
+    ensures rank { AtExpression codes.now (λ front a. (result.0 ≡ rank_by a facts.now) × (result.1.now ≡ front)) }
 {
-    match node {
-        Node::Number(number) => Some(*number),
-        Node::Given(fact) => Some(facts.get(*fact)),
-        Node::NoRank => None,
-        Node::Infix(operator, a, b) => {
-            let x = rank_of(a, facts)?;
-            let y = rank_of(b, facts)?;
-            Some(operator.apply(x, y))
+    let [front @ .., code] = codes else {
+        return (None, codes);
+    };
+    match code {
+        Code::Number(number) => (Some(*number), front),
+        Code::Given(fact) => (Some(facts.get(*fact)), front),
+        Code::Infix(operator) => {
+            let (first, second, rest) = ranks_of(front, facts);
+            (operator.apply_to(first, second), rest)
         }
-        Node::Call(extreme, a, b) => {
-            let first = rank_of(a, facts)?;
-            let second = rank_of(b, facts)?;
-            Some(extreme.apply(first, second))
+        Code::Call(extreme) => {
+            let (first, second, rest) = ranks_of(front, facts);
+            (extreme.apply_to(first, second), rest)
         }
-        Node::Choice(test, a, b) => {
-            if holds(test, facts) {
-                rank_of(a, facts)
-            } else {
-                rank_of(b, facts)
-            }
+        Code::Choice => {
+            let (first, second, rest) = ranks_of(front, facts);
+            let (holds, rest) = holds(rest, facts);
+            (if holds { first } else { second }, rest)
         }
+        _ => (None, front),
     }
 }
 
-/// Whether a test holds.
+/// The ranks by the two expressions at the end, and the codes in front of them.
 #[cycle(evaluate)]
-fn holds(test: &Test, facts: &Facts) -> bool
-    ensures { result ≡ holds_of (test_of test.now) facts.now }
+fn ranks_of<'a>(codes: &'a [Code], facts: &Facts) -> (Option<u64>, Option<u64>, &'a [Code])
+    ensures shorter { length result.2.now ≤ length codes.now }
+    ensures ranks { AtTwo codes.now (λ front a b.
+        (result.0 ≡ rank_by a facts.now) × (result.1 ≡ rank_by b facts.now) × (result.2.now ≡ front)) }
 {
-    match test {
-        Test::Compare(comparison, a, b) => match (rank_of(a, facts), rank_of(b, facts)) {
-            (Some(x), Some(y)) => comparison.holds(x, y),
-            _ => false,
-        },
-        Test::Join(joiner, a, b) => {
-            let first = holds(a, facts);
-            let second = holds(b, facts);
-            joiner.join(first, second)
+    let (second, rest) = rank_of(codes, facts);
+    let (first, rest) = rank_of(rest, facts);
+    (first, second, rest)
+}
+
+/// Whether the test at the end holds, and the codes in front of it.
+#[cycle(evaluate)]
+fn holds<'a>(codes: &'a [Code], facts: &Facts) -> (bool, &'a [Code])
+    ensures shorter { length result.1.now ≤ length codes.now }
+    ensures holds { AtTest codes.now (λ front a. (result.0 ≡ holds_of a facts.now) × (result.1.now ≡ front)) }
+{
+    let [front @ .., code] = codes else {
+        return (false, codes);
+    };
+    match code {
+        Code::Compare(comparison) => {
+            let (first, second, rest) = ranks_of(front, facts);
+            (comparison.holds_of(first, second), rest)
         }
-        Test::Negate(a) => !holds(a, facts),
+        Code::Join(joiner) => {
+            let (second, rest) = holds(front, facts);
+            let (first, rest) = holds(rest, facts);
+            (joiner.join(first, second), rest)
+        }
+        Code::Negate => {
+            let (first, rest) = holds(front, facts);
+            (!first, rest)
+        }
+        _ => (false, front),
     }
 }

@@ -2,25 +2,48 @@
 
 ghost use Rattle.std.specs.Prelude.{◌≡◌, ◌≤◌, IfErr, IfOk, length};
 ghost use Rattle.pc_rank.specs.Expressions.{Tree};
+ghost use Rattle.pc_rank.specs.Layout.{layout};
 ghost use Rattle.pc_rank.specs.Meaning.{rank_by};
-ghost use Rattle.pc_rank.specs.Reading.{IsText, Refuses, nodes};
-ghost use Rattle.pc_rank.specs.Trees.{tree};
+ghost use Rattle.pc_rank.specs.Reading.{IsReadable, IsText, Refuses, nodes};
 
-use crate::copy::copy_node;
+use crate::code::Code;
+use crate::display::write_expression;
 use crate::evaluate::rank_of;
 use crate::facts::Facts;
 use crate::fault::RankFault;
-use crate::input::{node_of, within_limits};
+use crate::input::{made_of, within_limits};
+use crate::lay::laid_out;
 use crate::lexer::tokens_of;
-use crate::tree::Node;
-use std::alloc::{AllocError, Global};
+use crate::row::Row;
+use crate::written::behind_expression;
 use std::fmt;
 use std::fmt::Display;
+use std::marker::Model;
 
-/// An expression that gives a thread's rank on a CPU, or none. It is read from a text, and owns its tree.
-#[derive(Drop)]
+/// An expression that gives a thread's rank on a CPU, or none: its codes, and `none` up to the end.
+#[derive(Clone, Copy, PartialEq, Eq)]
 pub struct Expression {
-    root: Node,
+    codes: [Code; Expression::MOST_NODES],
+    count: u8,
+}
+
+impl Model for Expression {
+    ghost use Rattle.pc_rank.specs.Expressions.{Tree};
+    ghost use Rattle.pc_rank.specs.Form.{tree_code};
+
+    ghost Value = { Tree };
+
+    ghost coded = { tree_code };
+
+    ghost use Rattle.pc_rank.specs.Fields.{fields_again, fields_of, tree_in, IsLaid};
+
+    ghost view = { tree_in };
+
+    ghost invariant = { IsLaid };
+
+    ghost inverse = { fields_of };
+
+    ghost inverse_ok = { λ a laid. fields_again a laid };
 }
 
 impl Expression {
@@ -31,54 +54,72 @@ impl Expression {
     pub const MOST_NODES: usize = 64;
 
     /// The expression of a text. What is wanted at the place of a fault, and the place, are tested and not proved.
-    pub fn read(alloc: Global, text: &[u8]) -> Result<Expression, RankFault>
+    pub fn read(text: &[u8]) -> Result<Expression, RankFault>
         // What is read is an expression of the text,
-        ensures sound { IfOk result (λ e. IsText text.now (tree e)) }
-        ensures within { IfOk result (λ e. (length text.now ≤ 512) × (nodes (tree e) ≤ 64)) }
+        ensures sound { IfOk result (λ e. IsText text.now e) }
+        ensures within { IfOk result (λ e. (length text.now ≤ 512) × (nodes e ≤ 64)) }
         // and no other is one.
-        ensures only { IfOk result (λ e. (a : Tree) → IsText text.now a → tree e ≡ a) }
-        // What is within the limits is read, unless memory runs out.
+        ensures only { IfOk result (λ e. (a : Tree) → IsText text.now a → e ≡ a) }
+        // What is within the limits is read.
         ensures complete { IfErr result (λ fault. Refuses text.now fault) }
     {
         if text.len() > Expression::LONGEST {
             return Err(RankFault::TooLong);
         }
-        let found = tokens_of(alloc, text)?;
+        let found = tokens_of(text);
         within_limits(&found)?;
-        let root = node_of(alloc, &found, text.len())?;
-        Ok(Expression { root })
+        let made = made_of(&found, text.len())?;
+        let row = laid_out(&made.nodes, made.root());
+        if behind_expression(Expression::LONGEST, row.as_slice()).is_none() {
+            return Err(RankFault::TooLong);
+        }
+        Ok(Expression::of(row))
+    }
+
+    /// The expression of these codes.
+    fn of(row: Row) -> Expression
+        requires { (a : Tree) × (row ≡ layout a) × IsReadable a }
+        ensures { (a : Tree) → row ≡ layout a → result ≡ a }
+    {
+        let (codes, count) = row.into_parts();
+        Expression { codes, count }
     }
 
     /// The rank of a thread of which these are the facts; none, where the thread is left out. It takes no memory.
     pub fn rank(&self, facts: &Facts) -> Option<u64>
-        ensures { result ≡ rank_by (tree self.now) facts.now }
+        ensures { result ≡ rank_by self.now facts.now }
     {
-        rank_of(&self.root, facts)
+        rank_of(self.codes(), facts).0
     }
 
-    /// The same expression.
-    pub fn try_copy(&self, alloc: Global) -> Result<Expression, AllocError>
-        ensures ok { IfOk result (λ copy. tree copy ≡ tree self.now) }
+    /// Its codes.
+    fn codes(&self) -> &[Code]
+        ensures { result.now ≡ layout self.now }
     {
-        let root = copy_node(alloc, &self.root)?;
-        Ok(Expression { root })
+        &self.codes[..usize::from(self.count)]
+    }
+
+    /// What is written of an expression is read again.
+    pub fn is_read_again(&self)
+        ensures { IsReadable self.now }
+    {
+        let _ = &self.count;
     }
 }
 
 impl fmt::Display for Expression {
     ghost use Rattle.std.specs.Prelude.{Some};
     ghost use Rattle.pc_rank.specs.Texts.{text_of};
-    ghost use Rattle.pc_rank.specs.Trees.{tree};
 
-    ghost output = { λ expression. Some (text_of (tree expression)) };
+    ghost output = { λ e. Some (text_of e) };
 
     fn fmt<W: fmt::Write>(&self, f: &mut fmt::Formatter<W>) -> fmt::Result {
-        self.root.fmt(f)
+        write_expression(f, self.codes())
     }
 }
 
 impl fmt::Debug for Expression {
     fn fmt<W: fmt::Write>(&self, f: &mut fmt::Formatter<W>) -> fmt::Result {
-        Display::fmt(&self.root, f)
+        Display::fmt(self, f)
     }
 }

@@ -4,7 +4,7 @@ ghost use Rattle.std.specs.Prelude.{◌≡◌};
 ghost use Rattle.pc_rank.specs.Meaning.{fact_in};
 
 /// One of the numbers that a rank may depend on, as an expression names it.
-#[derive(Clone, Copy)]
+#[derive(Clone, Copy, PartialEq, Eq)]
 pub enum Fact {
     /// The thread's level, from 0 to 7.
     Level,
@@ -16,8 +16,6 @@ pub enum Fact {
     Cpu,
     /// How many CPUs its mask has.
     Allowed,
-    /// How many of its messages are known.
-    Messages,
 }
 
 /// A thread on a CPU, as an expression sees it: the number of each [`Fact`].
@@ -33,8 +31,6 @@ pub struct Facts {
     pub cpu: u64,
     /// CPUs of its mask.
     pub allowed: u64,
-    /// Messages of it that are known.
-    pub messages: u64,
 }
 
 impl Facts {
@@ -48,7 +44,6 @@ impl Facts {
             Fact::Thread => self.thread,
             Fact::Cpu => self.cpu,
             Fact::Allowed => self.allowed,
-            Fact::Messages => self.messages,
         }
     }
 }

@@ -1,9 +1,5 @@
 //! Why a text is no expression.
 
-ghost use Rattle.std.specs.Prelude.{◌≡◌};
-ghost use Rattle.pc_rank.specs.declared.fault.RankFault.TheVariants as fault;
-
-use std::alloc::AllocError;
 use std::fmt;
 use thiserror::Error;
 
@@ -44,7 +40,7 @@ pub enum RankFault {
         at: usize,
         wanted: Wanted,
     },
-    /// The text has more than 512 bytes.
+    /// The text has more than 512 bytes, or would be written in more.
     #[error("more than 512 bytes")]
     TooLong,
     /// The text has more than 64 numbers, names, operators, comparisons and words.
@@ -57,9 +53,6 @@ pub enum RankFault {
     TooDeep {
         at: usize,
     },
-    /// No memory is left.
-    #[error("out of memory")]
-    OutOfMemory,
 }
 
 impl fmt::Display for Wanted {
@@ -77,13 +70,5 @@ impl fmt::Display for Wanted {
             Wanted::Comma => "`,` is wanted",
             Wanted::End => "the end is wanted",
         })
-    }
-}
-
-impl From<AllocError> for RankFault {
-    ghost from_gives = { λ _ e. e ≡ fault.OutOfMemory };
-
-    fn from(_error: AllocError) -> RankFault {
-        RankFault::OutOfMemory
     }
 }

@@ -1,12 +1,7 @@
 //! Where a reader of tokens stops, and what it finds.
 
-ghost use Rattle.std.specs.Prelude.{◌≡◌};
-ghost use Rattle.pc_rank.specs.declared.halt.Stop.TheVariants as stop;
-
 use crate::fault::Wanted;
 use crate::operators::{Joiner, Operator};
-use crate::tree::{Node, Test};
-use std::alloc::{AllocError, AllocFailed};
 
 /// What may stand at a place.
 #[derive(Clone, Copy)]
@@ -22,10 +17,10 @@ pub(crate) enum Place {
 }
 
 /// What is found at a place.
-#[derive(Drop)]
+#[derive(Clone, Copy)]
 pub(crate) enum Part {
-    Rank(Node),
-    Test(Test),
+    Rank,
+    Test,
 }
 
 /// Where tokens cannot go on: how many are left there, and what is wanted; nothing, where they lie too deep.
@@ -33,29 +28,6 @@ pub(crate) enum Part {
 pub(crate) struct Halt {
     pub(crate) left: usize,
     pub(crate) wanted: Option<Wanted>,
-}
-
-/// Why a reader stops.
-#[derive(Drop)]
-pub(crate) enum Stop {
-    Memory,
-    Halt(Halt),
-}
-
-impl From<AllocError> for Stop {
-    ghost from_gives = { λ _ e. e ≡ stop.Memory };
-
-    fn from(_error: AllocError) -> Stop {
-        Stop::Memory
-    }
-}
-
-impl<T: Drop> From<AllocFailed<T>> for Stop {
-    ghost from_gives = { λ _ e. e ≡ stop.Memory };
-
-    fn from(_error: AllocFailed<T>) -> Stop {
-        Stop::Memory
-    }
 }
 
 /// How what stands at a place begins.

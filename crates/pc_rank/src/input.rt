@@ -1,19 +1,17 @@
 //! Expressions of texts that are cut into tokens.
 
 ghost use Rattle.std.specs.Prelude.{◌≡◌, ◌≤◌, IfErr, IfOk, Ok, OnOk, count_by};
-ghost use Rattle.pc_rank.specs.Inner.Limits.{IsNoTree, IsPlaced, IsTooMany};
+ghost use Rattle.pc_rank.specs.Inner.Limits.{IsNoTree, IsPlaced, IsTooMany, tokens_in};
+ghost use Rattle.pc_rank.specs.Inner.Made.{tree_on};
 ghost use Rattle.pc_rank.specs.Inner.Reading.{whole};
 ghost use Rattle.pc_rank.specs.Tokens.{is_node};
-ghost use Rattle.pc_rank.specs.Trees.{tree_of};
 
 use crate::expression::Expression;
 use crate::fault::RankFault;
-use crate::halt::{Halt, Stop};
-use crate::lexer::Tokens;
+use crate::halt::Halt;
+use crate::making::Making;
 use crate::reader::whole;
-use crate::token::Token;
-use crate::tree::Node;
-use std::alloc::Global;
+use crate::token::{Token, Tokens};
 
 /// Whether a token makes a node.
 fn is_node(token: Token) -> bool
@@ -27,20 +25,21 @@ fn is_node(token: Token) -> bool
 
 /// The place of a token, or the end of the text.
 fn place_of(found: &Tokens, index: usize, end: usize) -> usize {
-    match found.places.as_slice().get(index) {
-        Some(place) => *place,
-        None => end,
+    if index < found.len() {
+        usize::from(found.places[index])
+    } else {
+        end
     }
 }
 
 /// Whether no more tokens than may make nodes.
 pub(crate) fn within_limits(found: &Tokens) -> Result<(), RankFault>
-    ensures ok { OnOk result (count_by is_node found.now.tokens.items ≤ 64) }
-    ensures err { IfErr result (λ fault. IsTooMany found.now.tokens.items fault) }
+    ensures ok { OnOk result (count_by is_node (tokens_in found.now) ≤ 64) }
+    ensures err { IfErr result (λ fault. IsTooMany (tokens_in found.now) fault) }
 {
     let mut count = 0;
     let mut index = 0;
-    for token in found.tokens.as_slice() {
+    for token in found.tokens() {
         if is_node(*token) {
             if count == Expression::MOST_NODES {
                 return Err(RankFault::TooManyNodes {
@@ -58,21 +57,22 @@ pub(crate) fn within_limits(found: &Tokens) -> Result<(), RankFault>
 fn placed(found: &Tokens, end: usize, halt: Halt) -> RankFault
     ensures { IsPlaced result }
 {
-    let at = place_of(found, found.tokens.len().saturating_sub(halt.left), end);
+    let at = place_of(found, found.len().saturating_sub(halt.left), end);
     match halt.wanted {
         Some(wanted) => RankFault::Wanted { at, wanted },
         None => RankFault::TooDeep { at },
     }
 }
 
-/// The tree of all tokens.
-pub(crate) fn node_of(alloc: Global, found: &Tokens, end: usize) -> Result<Node, RankFault>
-    ensures ok { IfOk result (λ node. whole found.now.tokens.items ≡ Ok (tree_of node)) }
-    ensures err { IfErr result (λ fault. IsNoTree found.now.tokens.items fault) }
+/// Makes the expression of all tokens.
+pub(crate) fn made_of(found: &Tokens, end: usize) -> Result<Making, RankFault>
+    requires { count_by is_node (tokens_in found.now) ≤ 64 }
+    ensures ok { IfOk result (λ made. whole (tokens_in found.now) ≡ Ok (tree_on made)) }
+    ensures err { IfErr result (λ fault. IsNoTree (tokens_in found.now) fault) }
 {
-    match whole(alloc, found.tokens.as_slice()) {
-        Ok(node) => Ok(node),
-        Err(Stop::Memory) => Err(RankFault::OutOfMemory),
-        Err(Stop::Halt(halt)) => Err(placed(found, end, halt)),
+    let mut made = Making::new();
+    match whole(&mut made, found.tokens()) {
+        Ok(()) => Ok(made),
+        Err(halt) => Err(placed(found, end, halt)),
     }
 }

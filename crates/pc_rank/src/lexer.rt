@@ -1,24 +1,18 @@
 //! Texts cut into tokens.
 
-ghost use Rattle.std.specs.Prelude.{◌≡◌, ℕ, ◌<◌, ◌≤◌, ◌^◌, ◌↔◌, false, true, IfOk, IsTrue};
+ghost use Rattle.std.specs.Prelude.{◌≡◌, ℕ, ◌<◌, ◌≤◌, ◌^◌, ◌↔◌, false, true, IsTrue};
 ghost use Rattle.std.specs.Prelude.{MatchOption, decimal, length};
 ghost use Rattle.std.specs.Prelude.{slice_index};
 ghost use Rattle.pc_rank.specs.Inner.Cutting.{before_equals, doubles, fact_named, letters, sign_at, single};
 ghost use Rattle.pc_rank.specs.Inner.Cutting.{Cuts, HasTokens, IsNamed, word_named};
+ghost use Rattle.pc_rank.specs.Inner.Limits.{tokens_in};
 ghost use Rattle.pc_rank.specs.Tokens.{is_of_word};
 ghost use Rattle.pc_rank.specs.declared.token.Token.TheVariants as token;
 
+use crate::expression::Expression;
 use crate::facts::Fact;
 use crate::operators::{Comparison, Extreme, Joiner, Operator};
-use crate::token::Token;
-use std::alloc::{AllocError, Global};
-
-/// The tokens of a text, and the place of each.
-#[derive(Drop)]
-pub(crate) struct Tokens {
-    pub(crate) tokens: Vec<Token>,
-    pub(crate) places: Vec<usize>,
-}
+use crate::token::{Token, Tokens};
 
 /// Whether a byte is a small letter or a digit.
 fn is_of_word(byte: u8) -> bool
@@ -86,9 +80,6 @@ fn fact_named(word: &[u8]) -> Token
     }
     if word == b"allowed".as_slice() {
         return Token::Given(Fact::Allowed);
-    }
-    if word == b"messages".as_slice() {
-        return Token::Given(Fact::Messages);
     }
     if word == b"none".as_slice() {
         return Token::NoRank;
@@ -201,23 +192,28 @@ fn first_token(text: &[u8]) -> (Token, &[u8])
 }
 
 /// The tokens of a text, and the place of each.
-pub(crate) fn tokens_of(alloc: Global, text: &[u8]) -> Result<Tokens, AllocError>
-    ensures { IfOk result (λ found. HasTokens text.now found.tokens.items) }
+pub(crate) fn tokens_of(text: &[u8]) -> Tokens
+    requires { length text.now ≤ 512 }
+    ensures { HasTokens text.now (tokens_in result) }
 {
-    let mut found = Tokens {
-        tokens: Vec::new(alloc),
-        places: Vec::new(alloc),
-    };
+    let mut tokens = [Token::Unknown; Expression::LONGEST];
+    let mut places = [0; Expression::LONGEST];
+    let mut count = 0;
     let mut rest = text;
     while let Some((byte, behind)) = rest.split_first() {
         if *byte == b' ' {
             rest = behind;
         } else {
             let (token, after) = first_token(rest);
-            found.tokens.push(token)?;
-            found.places.push(text.len() - rest.len())?;
+            tokens[count] = token;
+            places[count] = (text.len() - rest.len()) as u16;
+            count += 1;
             rest = after;
         }
     }
-    Ok(found)
+    Tokens {
+        tokens,
+        places,
+        count,
+    }
 }

@@ -4,7 +4,7 @@
 //! expression means, and `specs/Grammar.antt` which text it has.
 #![tactic(auto)]
 
-mod copy;
+mod code;
 mod display;
 mod evaluate;
 mod expression;
@@ -13,13 +13,17 @@ mod fault;
 mod halt;
 mod input;
 pub mod laws;
+mod lay;
 mod lexer;
 mod making;
 mod next;
+mod node;
 mod operators;
+mod parts;
 mod reader;
+mod row;
 mod token;
-mod tree;
+mod written;
 
 pub use expression::Expression;
 pub use facts::{Fact, Facts};

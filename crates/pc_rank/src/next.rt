@@ -1,39 +1,39 @@
 //! What the next token is.
 
-ghost use Rattle.std.specs.Prelude.{◌≡◌, drop};
+ghost use Rattle.std.specs.Prelude.{◌≡◌, ◌+◌, ◌≤◌, IfOk, IfSome, drop};
 ghost use Rattle.pc_rank.specs.Inner.Reading.{behind, comparison_of, deep, ended, halt, is_wanted, joiner_of, lead_of};
 ghost use Rattle.pc_rank.specs.Inner.Reading.{meets, mixes, next_comparison, next_joiner, next_lead, next_operator};
-ghost use Rattle.pc_rank.specs.Inner.Reading.{Gives, operator_of};
-ghost use Rattle.pc_rank.specs.declared.halt.Stop.TheVariants as stop;
+ghost use Rattle.pc_rank.specs.Inner.Reading.{Gives, Outweighs, operator_of, weight};
 
 use crate::fault::Wanted;
-use crate::halt::{Halt, Lead, Stop};
+use crate::halt::{Halt, Lead};
 use crate::operators::{Comparison, Joiner, Operator};
 use crate::token::Token;
 
 /// This is wanted here.
-pub(crate) fn wanted_at(tokens: &[Token], wanted: Wanted) -> Stop
-    ensures { result ≡ stop.Halt (halt tokens.now wanted) }
+pub(crate) fn wanted_at(tokens: &[Token], wanted: Wanted) -> Halt
+    ensures { result ≡ halt tokens.now wanted }
 {
-    Stop::Halt(Halt {
+    Halt {
         left: tokens.len(),
         wanted: Some(wanted),
-    })
+    }
 }
 
 /// It goes too deep here.
-pub(crate) fn too_deep_at(tokens: &[Token]) -> Stop
-    ensures { result ≡ stop.Halt (deep tokens.now) }
+pub(crate) fn too_deep_at(tokens: &[Token]) -> Halt
+    ensures { result ≡ deep tokens.now }
 {
-    Stop::Halt(Halt {
+    Halt {
         left: tokens.len(),
         wanted: None,
-    })
+    }
 }
 
 /// The tokens behind the next one.
 pub(crate) fn rest_of(tokens: &[Token]) -> &[Token]
-    ensures { result.now ≡ drop 1 tokens.now }
+    ensures is { result.now ≡ drop 1 tokens.now }
+    ensures weight { weight result.now ≤ weight tokens.now }
 {
     match tokens {
         [] => tokens,
@@ -55,7 +55,8 @@ fn lead_of(token: Token) -> Lead
 
 /// How what stands here begins.
 pub(crate) fn next_lead(tokens: &[Token]) -> Lead
-    ensures { result ≡ next_lead tokens.now }
+    ensures is { result ≡ next_lead tokens.now }
+    ensures weight { Outweighs result tokens.now }
 {
     match tokens {
         [] => Lead::Other,
@@ -75,7 +76,8 @@ fn operator_of(token: Token) -> Option<Operator>
 
 /// The operator that stands here.
 pub(crate) fn next_operator(tokens: &[Token]) -> Option<Operator>
-    ensures { result ≡ next_operator tokens.now }
+    ensures is { result ≡ next_operator tokens.now }
+    ensures weight { IfSome result (λ _. weight (drop 1 tokens.now) + 1 ≡ weight tokens.now) }
 {
     match tokens {
         [] => None,
@@ -95,7 +97,8 @@ fn joiner_of(token: Token) -> Option<Joiner>
 
 /// The word for joining that stands here.
 pub(crate) fn next_joiner(tokens: &[Token]) -> Option<Joiner>
-    ensures { result ≡ next_joiner tokens.now }
+    ensures is { result ≡ next_joiner tokens.now }
+    ensures weight { IfSome result (λ _. weight (drop 1 tokens.now) + 1 ≡ weight tokens.now) }
 {
     match tokens {
         [] => None,
@@ -115,7 +118,8 @@ fn comparison_of(token: Token) -> Option<Comparison>
 
 /// The comparison that stands here.
 pub(crate) fn next_comparison(tokens: &[Token]) -> Option<Comparison>
-    ensures { result ≡ next_comparison tokens.now }
+    ensures is { result ≡ next_comparison tokens.now }
+    ensures weight { IfSome result (λ _. weight (drop 1 tokens.now) + 1 ≡ weight tokens.now) }
 {
     match tokens {
         [] => None,
@@ -139,8 +143,9 @@ fn is_wanted(wanted: Wanted, token: Token) -> bool
 
 /// The tokens behind one that is wanted here.
 #[tactic(auto, unfolding(crate::specs::Inner::Reading::behind))]
-pub(crate) fn behind(wanted: Wanted, tokens: &[Token]) -> Result<&[Token], Stop>
-    ensures { Gives (λ x. x.now) result (behind wanted tokens.now) }
+pub(crate) fn behind(wanted: Wanted, tokens: &[Token]) -> Result<&[Token], Halt>
+    ensures is { Gives (λ x. x.now) result (behind wanted tokens.now) }
+    ensures weight { IfOk result (λ rest. weight rest.now ≤ weight tokens.now) }
 {
     match tokens {
         [] => Err(wanted_at(tokens, wanted)),
@@ -156,8 +161,9 @@ pub(crate) fn behind(wanted: Wanted, tokens: &[Token]) -> Result<&[Token], Stop>
 
 /// The tokens themselves, where no operator stands here.
 #[tactic(auto, unfolding(crate::specs::Inner::Reading::ended))]
-pub(crate) fn ended(tokens: &[Token]) -> Result<&[Token], Stop>
-    ensures { Gives (λ x. x.now) result (ended tokens.now) }
+pub(crate) fn ended(tokens: &[Token]) -> Result<&[Token], Halt>
+    ensures is { Gives (λ x. x.now) result (ended tokens.now) }
+    ensures weight { IfOk result (λ rest. weight rest.now ≤ weight tokens.now) }
 {
     match next_operator(tokens) {
         None => Ok(tokens),

@@ -1,11 +1,11 @@
 //! Operators of expressions, and what they give.
 
 ghost use Rattle.std.specs.Prelude.{◌≡◌};
-ghost use Rattle.pc_rank.specs.Meaning.{by_extreme, by_operator, compares, joined_by};
+ghost use Rattle.pc_rank.specs.Meaning.{are_both, by_extreme, by_operator, compares, joined_by, of_both};
 ghost use Rattle.pc_rank.specs.Texts.{is_joiner, is_operator, may_chain};
 
 /// An operator that stands between two numbers.
-#[derive(Clone, Copy)]
+#[derive(Clone, Copy, PartialEq, Eq)]
 pub enum Operator {
     /// Stops at 2^64 - 1.
     Plus,
@@ -20,14 +20,14 @@ pub enum Operator {
 }
 
 /// Which of two numbers is taken.
-#[derive(Clone, Copy)]
+#[derive(Clone, Copy, PartialEq, Eq)]
 pub enum Extreme {
     Min,
     Max,
 }
 
 /// How two numbers are compared.
-#[derive(Clone, Copy)]
+#[derive(Clone, Copy, PartialEq, Eq)]
 pub enum Comparison {
     Below,
     AtMost,
@@ -38,7 +38,7 @@ pub enum Comparison {
 }
 
 /// The word that joins tests.
-#[derive(Clone, Copy)]
+#[derive(Clone, Copy, PartialEq, Eq)]
 pub enum Joiner {
     And,
     Or,
@@ -55,6 +55,18 @@ impl Operator {
             Operator::Minus => a.saturating_sub(b),
             Operator::Over => { if b == 0 { u64::MAX } else { a / b } }
             Operator::Modulo => { if b == 0 { a } else { a % b } }
+        }
+    }
+}
+
+impl Operator {
+    /// What it gives of two that may be none.
+    pub(crate) fn apply_to(self, a: Option<u64>, b: Option<u64>) -> Option<u64>
+        ensures { result ≡ of_both (by_operator self) a b }
+    {
+        match (a, b) {
+            (Some(x), Some(y)) => Some(self.apply(x, y)),
+            _ => None,
         }
     }
 }
@@ -92,6 +104,16 @@ impl Extreme {
             Extreme::Max => a.max(b),
         }
     }
+
+    /// The one that it takes of two that may be none.
+    pub(crate) fn apply_to(self, a: Option<u64>, b: Option<u64>) -> Option<u64>
+        ensures { result ≡ of_both (by_extreme self) a b }
+    {
+        match (a, b) {
+            (Some(x), Some(y)) => Some(self.apply(x, y)),
+            _ => None,
+        }
+    }
 }
 
 impl Comparison {
@@ -106,6 +128,16 @@ impl Comparison {
             Comparison::Other => a != b,
             Comparison::AtLeast => b <= a,
             Comparison::Above => b < a,
+        }
+    }
+
+    /// Whether it holds of two that may be none; it holds of no none.
+    pub(crate) fn holds_of(self, a: Option<u64>, b: Option<u64>) -> bool
+        ensures { result ≡ are_both (compares self) a b }
+    {
+        match (a, b) {
+            (Some(x), Some(y)) => self.holds(x, y),
+            _ => false,
         }
     }
 }

@@ -5,7 +5,7 @@ use std::alloc::Global;
 use std::test::Fail;
 
 /// A text, the place of its fault, and what is wanted there.
-static ROWS: [(&str, usize, Wanted); 77] = [
+static ROWS: [(&str, usize, Wanted); 78] = [
     ("", 0, Wanted::Operand),
     ("   ", 3, Wanted::Operand),
     ("+", 0, Wanted::Operand),
@@ -59,6 +59,7 @@ static ROWS: [(&str, usize, Wanted); 77] = [
     ("not (level < 3)", 0, Wanted::Operand),
     ("then", 0, Wanted::Operand),
     ("foo", 0, Wanted::Operand),
+    ("messages", 0, Wanted::Operand),
     ("levels", 0, Wanted::Operand),
     ("Level", 0, Wanted::Operand),
     ("level1", 0, Wanted::Operand),
@@ -98,17 +99,17 @@ static ROWS: [(&str, usize, Wanted); 77] = [
 ];
 
 /// Whether a text has this fault.
-fn holds(alloc: Global, text: &str, at: usize, wanted: Wanted) -> bool {
-    match Expression::read(alloc, text.as_bytes()) {
+fn holds(text: &str, at: usize, wanted: Wanted) -> bool {
+    match Expression::read(text.as_bytes()) {
         Ok(_) => false,
         Err(fault) => fault == RankFault::Wanted { at, wanted },
     }
 }
 
 /// The place of the first row that does not hold.
-fn first_wrong(alloc: Global) -> Option<usize> {
+fn first_wrong() -> Option<usize> {
     for (place, row) in ROWS.iter().enumerate() {
-        if !holds(alloc, row.0, row.1, row.2) {
+        if !holds(row.0, row.1, row.2) {
             return Some(place);
         }
     }
@@ -117,12 +118,12 @@ fn first_wrong(alloc: Global) -> Option<usize> {
 
 #[test]
 fn faults_have_places(rt: HostRuntime) {
-    assert_eq!(rt; first_wrong(rt.alloc()), None);
+    assert_eq!(rt; first_wrong(), None);
 }
 
 /// What the fault of a text says.
 fn said(alloc: Global, text: &str) -> Result<String, Fail> {
-    match Expression::read(alloc, text.as_bytes()) {
+    match Expression::read(text.as_bytes()) {
         Ok(_) => Err("it is an expression".into()),
         Err(fault) => Ok(fault.to_string(alloc)?),
     }

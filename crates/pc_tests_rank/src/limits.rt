@@ -5,8 +5,8 @@ use std::alloc::{AllocError, Global};
 use std::test::Fail;
 
 /// The fault of a text; none, where it is an expression.
-fn fault_of(alloc: Global, text: &[u8]) -> Option<RankFault> {
-    match Expression::read(alloc, text) {
+fn fault_of(text: &[u8]) -> Option<RankFault> {
+    match Expression::read(text) {
         Ok(_) => None,
         Err(fault) => Some(fault),
     }
@@ -25,7 +25,7 @@ fn padded(alloc: Global, spaces: usize) -> Result<Vec<u8>, AllocError> {
 /// The fault of so many spaces and a number.
 fn fault_of_padded(alloc: Global, spaces: usize) -> Result<Option<RankFault>, Fail> {
     let text = padded(alloc, spaces)?;
-    Ok(fault_of(alloc, text.as_slice()))
+    Ok(fault_of(text.as_slice()))
 }
 
 #[test]
@@ -36,7 +36,7 @@ fn a_text_has_512_bytes(rt: HostRuntime) -> Result<(), Fail> {
 }
 
 /// Texts at the limits, and past them.
-static ROWS: [(&str, Option<RankFault>); 10] = [
+static ROWS: [(&str, Option<RankFault>); 12] = [
     ("(((((((((((((((1)))))))))))))))", None),
     (
         "((((((((((((((((1))))))))))))))))",
@@ -79,12 +79,29 @@ static ROWS: [(&str, Option<RankFault>); 10] = [
          1), 1), 1), 1), 1), 1)",
         Some(RankFault::TooDeep { at: 64 }),
     ),
+    // Without spaces these have some 470 bytes; they would be written in 512 and in 513.
+    (
+        "(1+1+184467440737095+18446744073709551615+18446744073709551615+18446744073709551615+184467440737\
+         09551615+18446744073709551615)*(18446744073709551615+18446744073709551615+18446744073709551615+1\
+         8446744073709551615+18446744073709551615+18446744073709551615+18446744073709551615+1844674407370\
+         9551615)*(18446744073709551615+18446744073709551615+18446744073709551615+18446744073709551615+18\
+         446744073709551615+18446744073709551615+18446744073709551615+18446744073709551615)",
+        None,
+    ),
+    (
+        "(1+1+1844674407370955+18446744073709551615+18446744073709551615+18446744073709551615+18446744073\
+         709551615+18446744073709551615)*(18446744073709551615+18446744073709551615+18446744073709551615+\
+         18446744073709551615+18446744073709551615+18446744073709551615+18446744073709551615+184467440737\
+         09551615)*(18446744073709551615+18446744073709551615+18446744073709551615+18446744073709551615+1\
+         8446744073709551615+18446744073709551615+18446744073709551615+18446744073709551615)",
+        Some(RankFault::TooLong),
+    ),
 ];
 
 /// The place of the first row that does not hold.
-fn first_wrong(alloc: Global) -> Option<usize> {
+fn first_wrong() -> Option<usize> {
     for (place, row) in ROWS.iter().enumerate() {
-        if fault_of(alloc, row.0.as_bytes()) != row.1 {
+        if fault_of(row.0.as_bytes()) != row.1 {
             return Some(place);
         }
     }
@@ -93,5 +110,5 @@ fn first_wrong(alloc: Global) -> Option<usize> {
 
 #[test]
 fn texts_are_bounded(rt: HostRuntime) {
-    assert_eq!(rt; first_wrong(rt.alloc()), None);
+    assert_eq!(rt; first_wrong(), None);
 }

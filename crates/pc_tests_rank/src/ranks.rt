@@ -1,7 +1,6 @@
 //! What expressions give of a thread: each operator at ordinary numbers, at 0, at the greatest number and at `none`.
 
 use pc_rank::{Expression, Facts};
-use std::alloc::Global;
 
 /// Of the thread of all rows.
 const FACTS: Facts = Facts {
@@ -10,17 +9,15 @@ const FACTS: Facts = Facts {
     thread: 7,
     cpu: 3,
     allowed: 4,
-    messages: 20,
 };
 
 /// A text, and the rank that it gives.
-static ROWS: [(&str, Option<u64>); 162] = [
+static ROWS: [(&str, Option<u64>); 160] = [
     ("level", Some(5)),
     ("ran", Some(100)),
     ("thread", Some(7)),
     ("cpu", Some(3)),
     ("allowed", Some(4)),
-    ("messages", Some(20)),
     ("0", Some(0)),
     ("18446744073709551615", Some(18446744073709551615)),
     ("none", None),
@@ -177,7 +174,6 @@ static ROWS: [(&str, Option<u64>); 162] = [
     ("if cpu < 4 then 7 - level else none", Some(2)),
     ("if cpu < 3 then 7 - level else none", None),
     ("(1000 * (7 - level)) + (ran / 100)", Some(2001)),
-    ("ran / messages", Some(5)),
     ("  ran+1 ", Some(101)),
     ("min( ran ,7 )", Some(7)),
     ("(((ran)))", Some(100)),
@@ -186,17 +182,17 @@ static ROWS: [(&str, Option<u64>); 162] = [
 ];
 
 /// The rank that a text gives; none also where it is no expression.
-fn rank_of(alloc: Global, text: &str, facts: &Facts) -> Option<Option<u64>> {
-    match Expression::read(alloc, text.as_bytes()) {
+fn rank_of(text: &str, facts: &Facts) -> Option<Option<u64>> {
+    match Expression::read(text.as_bytes()) {
         Ok(expression) => Some(expression.rank(facts)),
         Err(_) => None,
     }
 }
 
 /// The place of the first row that does not hold.
-fn first_wrong(alloc: Global) -> Option<usize> {
+fn first_wrong() -> Option<usize> {
     for (place, row) in ROWS.iter().enumerate() {
-        if rank_of(alloc, row.0, &FACTS) != Some(row.1) {
+        if rank_of(row.0, &FACTS) != Some(row.1) {
             return Some(place);
         }
     }
@@ -205,5 +201,5 @@ fn first_wrong(alloc: Global) -> Option<usize> {
 
 #[test]
 fn expressions_give_ranks(rt: HostRuntime) {
-    assert_eq!(rt; first_wrong(rt.alloc()), None);
+    assert_eq!(rt; first_wrong(), None);
 }

@@ -90,22 +90,22 @@ static ROWS: [(&str, &str); 36] = [
         "if (not (1 < 2)) and (3 < 4) then 5 else 6",
     ),
     (
-        "level + ran + thread + cpu + allowed + messages",
-        "level + ran + thread + cpu + allowed + messages",
+        "level + ran + thread + cpu + allowed",
+        "level + ran + thread + cpu + allowed",
     ),
     ("18446744073709551615", "18446744073709551615"),
 ];
 
 /// What a text's expression is written as.
 fn written(alloc: Global, text: &str) -> Result<String, Failed> {
-    let expression = Expression::read(alloc, text.as_bytes())?;
+    let expression = Expression::read(text.as_bytes())?;
     Ok(expression.to_string(alloc)?)
 }
 
 /// What a copy of a text's expression is written as.
 fn written_of_copy(alloc: Global, text: &str) -> Result<String, Failed> {
-    let expression = Expression::read(alloc, text.as_bytes())?;
-    let copy = expression.try_copy(alloc)?;
+    let expression = Expression::read(text.as_bytes())?;
+    let copy = expression;
     Ok(copy.to_string(alloc)?)
 }
 
@@ -130,4 +130,40 @@ fn first_wrong(alloc: Global) -> Option<usize> {
 #[test]
 fn expressions_are_written_and_copied(rt: HostRuntime) {
     assert_eq!(rt; first_wrong(rt.alloc()), None);
+}
+
+/// Two texts, and whether they have the same expression.
+static PAIRS: [(&str, &str, bool); 9] = [
+    ("1+2", " 1 + 2", true),
+    ("(level)", "level", true),
+    ("1 + (2 + 3)", "1 + 2 + 3", true),
+    ("(1 + 2) + 3", "1 + 2 + 3", false),
+    ("1 + 2", "2 + 1", false),
+    ("1 + 2", "1 * 2", false),
+    ("min(1, 2)", "max(1, 2)", false),
+    ("level", "none", false),
+    ("if 1 < 2 then 3 else 4", "if 1 <= 2 then 3 else 4", false),
+];
+
+/// Whether two texts have expressions that are equal.
+fn are_equal(text: &str, other: &str) -> Result<bool, Failed> {
+    let first = Expression::read(text.as_bytes())?;
+    let second = Expression::read(other.as_bytes())?;
+    Ok(first == second)
+}
+
+/// The place of the first pair that does not hold.
+fn first_unlike() -> Option<usize> {
+    for (place, row) in PAIRS.iter().enumerate() {
+        match are_equal(row.0, row.1) {
+            Ok(equal) if equal == row.2 => {}
+            _ => return Some(place),
+        }
+    }
+    None
+}
+
+#[test]
+fn expressions_are_compared(rt: HostRuntime) {
+    assert_eq!(rt; first_unlike(), None);
 }

@@ -24,7 +24,6 @@ fact_named word =
     if bytes_eq word (codes "thread") then token.Given fact.Thread else
     if bytes_eq word (codes "cpu") then token.Given fact.Cpu else
     if bytes_eq word (codes "allowed") then token.Given fact.Allowed else
-    if bytes_eq word (codes "messages") then token.Given fact.Messages else
     if bytes_eq word (codes "none") then token.NoRank else token.Unknown
 
 abbrev pub word_named : List ℕ → Token

@@ -1,11 +1,16 @@
 -- Tokens within the limits, and what the reader of tokens says at a place of the text.
-use Rattle.std.specs.Prelude.{◌≡◌, ◌<◌, List, count_by, Ok}
+use Rattle.std.specs.Prelude.{◌≡◌, ◌<◌, List, count_by, take, Ok}
 use Rattle.pc_rank.specs.Expressions.{Tree}
 use Rattle.pc_rank.specs.Inner.Reading.{whole}
 use Rattle.pc_rank.specs.Tokens.{is_node}
 use Rattle.pc_rank.specs.declared.fault.RankFault.{RankFault}
 use Rattle.pc_rank.specs.declared.fault.RankFault.TheVariants as fault
+use Rattle.pc_rank.specs.declared.token.Tokens.{Tokens}
 use Rattle.pc_rank.specs.declared.token.Token.{Token}
+
+-- the tokens that were found
+abbrev pub tokens_in : Tokens → List Token
+tokens_in found = take found.count found.tokens
 
 -- too many tokens make nodes
 abbrev pub IsTooMany : List Token → RankFault → Type 0
@@ -13,13 +18,11 @@ IsTooMany tokens (fault.TooManyNodes at) = 64 < count_by is_node tokens
 IsTooMany tokens (fault.Wanted at wanted) = ⊥
 IsTooMany tokens fault.TooLong = ⊥
 IsTooMany tokens (fault.TooDeep at) = ⊥
-IsTooMany tokens fault.OutOfMemory = ⊥
 
--- the tokens make no expression, or memory ran out
+-- the tokens make no expression
 abbrev pub IsNoTree : List Token → RankFault → Type 0
 IsNoTree tokens (fault.Wanted at wanted) = (a : Tree) → whole tokens ≡ Ok a → ⊥
 IsNoTree tokens (fault.TooDeep at) = (a : Tree) → whole tokens ≡ Ok a → ⊥
-IsNoTree tokens fault.OutOfMemory = Unit {0}
 IsNoTree tokens (fault.TooManyNodes at) = ⊥
 IsNoTree tokens fault.TooLong = ⊥
 
@@ -29,4 +32,3 @@ IsPlaced (fault.Wanted at w) = Unit {0}
 IsPlaced (fault.TooDeep at) = Unit {0}
 IsPlaced (fault.TooManyNodes at) = ⊥
 IsPlaced fault.TooLong = ⊥
-IsPlaced fault.OutOfMemory = ⊥

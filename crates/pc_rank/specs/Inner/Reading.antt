@@ -1,21 +1,18 @@
 -- Tokens are read from left to right, up to where they cannot go on.
-use Rattle.std.specs.Prelude.{◌≡◌, ℕ, zero, suc, Bool, true, false, not, List, [], ◌∷◌, drop, length}
+use Rattle.std.specs.Prelude.{◌≡◌, ℕ, zero, suc, ◌+◌, count_by, Bool, true, false, not, List, [], ◌∷◌, drop, length}
 use Rattle.std.specs.Prelude.{Option, Some, None, Result, Ok, Err, if◌then◌else◌}
 use Rattle.pc_rank.specs.Expressions.{Tree, Condition}
 use Rattle.pc_rank.specs.Expressions as tree
 use Rattle.pc_rank.specs.Texts.{is_joiner, is_operator, may_chain}
-use Rattle.pc_rank.specs.Trees.{test_of, tree_of}
+use Rattle.pc_rank.specs.Tokens.{is_node}
+use Rattle.pc_rank.specs.Nodes.{Found, Rank, Test}
 use Rattle.pc_rank.specs.declared.fault.Wanted.{Wanted}
 use Rattle.pc_rank.specs.declared.fault.Wanted.TheVariants as wanted
 use Rattle.pc_rank.specs.declared.halt.Halt.{Halt}
 use Rattle.pc_rank.specs.declared.halt.Lead.{Lead}
 use Rattle.pc_rank.specs.declared.halt.Lead.TheVariants as lead
-use Rattle.pc_rank.specs.declared.halt.Part.{Part}
-use Rattle.pc_rank.specs.declared.halt.Part.TheVariants as part
 use Rattle.pc_rank.specs.declared.halt.Place.{Place}
 use Rattle.pc_rank.specs.declared.halt.Place.TheVariants as place
-use Rattle.pc_rank.specs.declared.halt.Stop.{Stop}
-use Rattle.pc_rank.specs.declared.halt.Stop.TheVariants as stop
 use Rattle.pc_rank.specs.declared.operators.Comparison.{Comparison}
 use Rattle.pc_rank.specs.declared.operators.Extreme.{Extreme}
 use Rattle.pc_rank.specs.declared.operators.Joiner.{Joiner}
@@ -23,29 +20,15 @@ use Rattle.pc_rank.specs.declared.operators.Operator.{Operator}
 use Rattle.pc_rank.specs.declared.token.Token.{Token}
 use Rattle.pc_rank.specs.declared.token.Token.TheVariants as token
 
--- an expression or a test
-pub data Found : Type 0 where
-  Rank : Tree → Found
-  Test : Condition → Found
-
--- what a part is, wherever it lies in memory
-abbrev pub found_of : Part → Found
-found_of (part.Rank node) = Rank (tree_of node)
-found_of (part.Test test) = Test (test_of test)
-
 infixl 10 ◌>>=◌
 abbrev pub ◌>>=◌ : {A B : Type 0} → Result A Halt → (A → Result B Halt) → Result B Halt
 (Ok x) >>= f = f x
 (Err e) >>= f = Err e
 
--- what a function returned, seen by view, is what reading gives, unless memory ran out
-abbrev pub Fails : {Y : Type 0} → Stop → Result Y Halt → Type 0
-Fails stop.Memory read = Unit {0}
-Fails (stop.Halt halt) read = read ≡ Err halt
-
-abbrev pub Gives : {X Y : Type 0} → (X → Y) → Result X Stop → Result Y Halt → Type 0
+-- what a function returned, seen by view, is what reading gives
+abbrev pub Gives : {X Y : Type 0} → (X → Y) → Result X Halt → Result Y Halt → Type 0
 Gives view (Ok x) read = read ≡ Ok (view x)
-Gives view (Err e) read = Fails e read
+Gives view (Err e) read = read ≡ Err e
 
 -- what reads tokens finds something, and leaves the tokens behind it
 abbrev pub Reader : Type 0 → Type 0
@@ -61,6 +44,10 @@ deep tokens = record { left = length tokens; wanted = None }
 
 -- ---- the next token
 
+-- how many nodes the tokens may make
+unfoldable pub weight : List Token → ℕ
+weight tokens = count_by is_node tokens
+
 -- how what stands at a place begins
 abbrev pub lead_of : Token → Lead
 lead_of token.If = lead.Choice
@@ -71,6 +58,13 @@ lead_of _ = lead.Other
 abbrev pub next_lead : List Token → Lead
 next_lead [] = lead.Other
 next_lead (t ∷ ts) = lead_of t
+
+-- a lead that makes a node is one of them
+abbrev pub Outweighs : Lead → List Token → Type 0
+Outweighs lead.Choice tokens = weight (drop 1 tokens) + 1 ≡ weight tokens
+Outweighs lead.Negation tokens = weight (drop 1 tokens) + 1 ≡ weight tokens
+Outweighs lead.Group tokens = Unit {0}
+Outweighs lead.Other tokens = Unit {0}
 
 abbrev pub operator_of : Token → Option Operator
 operator_of (token.Infix operator) = Some operator

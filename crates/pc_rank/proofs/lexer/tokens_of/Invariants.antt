@@ -1,9 +1,13 @@
-use Rattle.std.proofs.Common.{◌≤◌, length}
+use Rattle.std.proofs.Common.{◌≡◌, ◌+◌, ◌≤◌, length, take}
 use Rattle.pc_rank.specs.Inner.Cutting.{BeginsWith}
 use Rattle.pc_rank.proofs.lexer.tokens_of.Given as goal
 
 abbrev pub invariant-loop-byte : goal.invariant-loop-byte
-invariant-loop-byte l = record { begins : BeginsWith l.text l.found.tokens.items l.rest; shorter : length l.rest ≤ length l.text }
+invariant-loop-byte l = record {
+  begins : BeginsWith l.text (take l.count l.tokens) l.rest;
+  shorter : l.count + length l.rest ≤ length l.text;
+  wide : length l.tokens ≡ 512;
+}
 
 abbrev pub decreases-loop-byte : goal.decreases-loop-byte
 decreases-loop-byte l = length l.rest
