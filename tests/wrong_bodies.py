@@ -328,6 +328,7 @@ def failures_in(said: str, crate: str) -> dict[str, list[str]]:
     """The goals that are not proved, by function."""
     goals: defaultdict[str, list[str]] = defaultdict(list)
     noted: list[str] = []
+    in_circles: list[tuple[str, str]] = []
     for line in said.splitlines():
         told, proof, note = TOLD.match(line), PROOF.match(line), NOTE.match(line)
         if note:
@@ -338,7 +339,16 @@ def failures_in(said: str, crate: str) -> dict[str, list[str]]:
                 goals[told[2]] += [*noted, *(GOAL.findall(found[1]) if found else [])]
             noted = []
         elif proof:
-            goals[proof[1].replace("/", "::")].append(proof[2])
+            function = proof[1].replace("/", "::")
+            goals[function].append(proof[2])
+            if "+" in function:
+                in_circles.append((function.partition("+")[0], proof[2]))
+    # The proofs of a circle stand together, and each goal begins with the name of its function, where there are several.
+    for modules, goal in in_circles:
+        told_there = [it for it in goals if it.startswith(modules) and "+" not in it]
+        named = [it for it in told_there if goal.startswith(it.removeprefix(modules) + "-")]
+        for function in named or told_there[:1]:
+            goals[function].append(goal)
     return goals
 
 

@@ -9,6 +9,7 @@ from collections.abc import Callable
 
 import rig
 from rig import ROOT, same
+from wrong_bodies import failures_in
 
 # A crate that is made up: its source, its edits, the rows of their table, and what a check says of them.
 SOURCE = (ROOT / "tests/wrong_bodies.rt.in").read_text()
@@ -147,6 +148,16 @@ NO_VERDICT = "low/none-is-one: the check came to no verdict"
 def test_change_fails(it: WrongBodies, change: Callable[[WrongBodies], object], words: str) -> None:
     change(it)
     it.fails_by(words)
+
+
+def test_a_goal_of_a_circle_is_of_its_function(_: WrongBodies) -> None:
+    said = "\n".join([
+        "./proofs/near/+circle/Answers.antt:5:1: error: `first_of-returns-clause-sum`: it is of another type",
+        "fn low::near::first: not proved", "fn low::near::first_of: not proved", "fn low::far::first_of: not proved"])
+    goals = failures_in(said, "low")
+    same([goals[it] for it in ("near::first", "near::first_of", "far::first_of")], [[], ["first_of-returns-clause-sum"], []])
+    said = "./proofs/near/+circle/Answers.antt:5:1: error: `returns-clause-sum`: it is of another type\nfn low::near::first: not proved"
+    same(failures_in(said, "low")["near::first"], ["returns-clause-sum"])
 
 
 def test_one_that_fails_elsewhere_wants_a_reason(it: WrongBodies) -> None:
