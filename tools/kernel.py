@@ -15,6 +15,8 @@ from collections.abc import Iterable, Iterator
 from dataclasses import dataclass, field
 from typing import NamedTuple
 
+from ranks import RANKINGS, Facts, Fault, policy_of, ranking_of
+
 BYTE, WORD32, WORD64 = 2**8 - 1, 2**32 - 1, 2**64 - 1
 # The greatest number of each word of the table. A thread is `t` and a number.
 GREATEST = dict.fromkeys(("C", "Q", "A", "B", "CPUS", "LEVEL"), BYTE) | dict.fromkeys(("MASK", "K"), WORD64)
@@ -22,7 +24,10 @@ GREATEST |= dict.fromkeys(("T", "RAN", "ASEQ", "NUMBER", "THREADS", "NUMBERS", "
 NUMBER = re.compile(r"0|[1-9][0-9]*")
 # A word that could be one of a command's.
 ANY_WORD = re.compile(r"-|[a-z]+(?:-[a-z]+)*|t?(?:0|[1-9][0-9]{0,19})")
-ORDERS = ("levels", "fifo", "least-ran", "levels-then-least-ran")
+# The orders that have names.
+ORDERS = tuple(RANKINGS)
+# Behind all ranks: where a thread stands that an order leaves out.
+LEFT_OUT = WORD64 + 1
 LEAVES = {"block": "blocked", "yield": "ready", "preempt": "ready", "die": "dead"}
 # What the environment does, and no agent.
 ENVIRONMENT = {"create", "wake", *LEAVES, "affinity", "priority", "tick"}
@@ -42,7 +47,6 @@ PLACED = re.compile(r"ok t([0-9]+) [cq][0-9]+")
 REMOVED = re.compile(r"ok ([0-9]+)")
 # Answers that tell of no thread, and change nothing that the kernel has.
 UNHEEDED = re.compile(r"ok(?: d\d+(?: items \d+)?)?|yes|no|equal|differ|end|refused .+")
-Rank = tuple[int, int]
 Item = tuple[int, int]  # a thread, and the number of its message
 
 
@@ -71,6 +75,13 @@ def is_word(form: str, word: str) -> bool:
     return (form != "T" or word != digits) and bool(NUMBER.fullmatch(digits)) and int(digits) <= GREATEST[form]
 
 
+def is_policy(words: list[str]) -> bool:
+    try:
+        return bool(policy_of(" ".join(words).encode("latin-1")))
+    except Fault:
+        return False
+
+
 def words_of(line: bytes) -> list[str]:
     """The words of a line, none where it is silent. Bytes that are no text stay apart from all words."""
     return [] if line.startswith(b"#") else [it for it in line.removesuffix(b"\r").decode("latin-1").split(" ") if it]
@@ -80,6 +91,8 @@ def fields_of(words: list[str], version: int) -> list[int | str] | None:
     """The words behind the first as numbers, where they are some; nothing, where they ask for no command."""
     if words[0] in OWN_OF_VERSION_3 and version < 3:
         return None
+    if words[:2] == ["policy", "rank"]:
+        return [*words[1:]] if is_policy(words[1:]) else None
     for form in forms():
         if len(form) == len(words) and all(map(is_word, form, words)):
             return [int(word.removeprefix("t")) if it in GREATEST else word for it, word in zip(form[1:], words[1:])]
@@ -136,10 +149,10 @@ class Report(NamedTuple):
     ran: int = 0
     level: int = 0
 
-    def rank(self, order: str, more: int = 0) -> Rank:
-        """By this order, of a thread that ran for so many ticks more: the least comes first."""
-        by_level = 0 if order in ("fifo", "least-ran") else 7 - self.level
-        return by_level, self.ran + more if order.endswith("least-ran") else 0
+    def rank(self, order: str, name: int, cpu: int, more: int = 0) -> int:
+        """By this order, of the thread of this name on a CPU, if it ran for so many ticks more: the least is first."""
+        rank = ranking_of(order).rank(Facts(self.level, self.ran + more, name, cpu, self.mask.bit_count()))
+        return LEFT_OUT if rank is None else rank
 
     def may_run(self, cpu: int) -> bool:
         return self.phase == "ready" and bool(self.mask >> cpu & 1)
@@ -229,6 +242,8 @@ class Kernel:
     def say(self, line: str) -> str:
         """The answer to a command that is spelled without a fault."""
         verb, *words = line.split()
+        if verb == "policy":
+            return self.ask(verb, *words)
         return self.ask(verb, *(int(word.removeprefix("t")) if word[-1].isdigit() else word for word in words))
 
     def need(self, holds: object, refusal: object) -> None:
@@ -431,9 +446,9 @@ class World(Kernel):
         super().__post_init__()
         self.agents = [Agent() for _ in range(self.cpus)]
 
-    def policy(self, order: str, exact: str = "") -> str:
+    def policy(self, *words: str) -> str:
         self.need(not self.had_event, "TooLate")
-        self.order, self.exact = order, bool(exact)
+        self.order, self.exact = policy_of(" ".join(words).encode("latin-1"))
         return "ok"
 
     # What agents know, and tell each other
@@ -451,8 +466,8 @@ class World(Kernel):
         agent, messages = self.agents[cpu], [item for item in items if item]
         agent.learn(messages)
         told = {name: self.reported(cpu, name) for name in [*agent.names, *(name for name, _ in messages)]}
-        able = {name: report.rank(self.order) for name, report in told.items() if report and report.may_run(cpu)}
-        agent.names = sorted(able, key=able.__getitem__)
+        able = {name: it.rank(self.order, name, cpu) for name, it in told.items() if it and it.may_run(cpu)}
+        agent.names = sorted((name for name in able if able[name] < LEFT_OUT), key=able.__getitem__)
 
     def publish(self, cpu: int, fails: str = "") -> str:
         self.read(cpu, self.queues[cpu].items)
@@ -497,17 +512,19 @@ class World(Kernel):
                 return self.commit(cpu, name, aseq)
         raise Refused("NothingReady")
 
-    def candidates(self, cpu: int) -> Iterator[tuple[Rank, int]]:
+    def candidates(self, cpu: int) -> Iterator[tuple[int, int]]:
         """The threads that a steal may take, each with what comes first where it counts; those of which all is known, where it is exact."""
         agent = self.agents[cpu]
         for name in agent.upto.keys() - set(agent.names):
             thread = self.threads[name]
             if thread.cpu is None and self.may_run(cpu, name) and (not self.exact or agent.upto[name] == thread.number):
-                yield thread.now.rank(self.order) if self.exact else (0, 0), name
+                rank = thread.now.rank(self.order, name, cpu) if self.exact else 0
+                if rank < LEFT_OUT:
+                    yield rank, name
 
     def target(self, cpu: int) -> int | None:
         """The thread that a steal tries."""
-        return min(self.candidates(cpu), default=((0, 0), None))[1]
+        return min(self.candidates(cpu), default=(0, None))[1]
 
     def steal(self, cpu: int) -> str:
         self.need(self.running[cpu] is None, "Busy")
