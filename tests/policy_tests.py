@@ -93,7 +93,7 @@ class Drawn:
         agent, report = self.world.agents[cpu], partial(self.world.reported, cpu)
         names = dict.fromkeys([*agent.names, *(item[0] for item in self.world.queues[cpu].items if item)])
         self.say(f"publish {cpu}{more}")
-        by_levels = min((it for it in names if self.world.may_run(cpu, it)), key=lambda it: report(it).rank("levels"), default=None)
+        by_levels = min((it for it in names if self.world.may_run(cpu, it)), key=lambda it: report(it).rank("levels", it, cpu), default=None)
         self.counts["order"] += agent.names[:1] not in ([], [by_levels])
 
     def takes_in(self, cpu: int, other: int) -> None:

@@ -9,7 +9,8 @@ from collections import Counter
 from collections.abc import Iterator
 from dataclasses import dataclass, field
 
-from kernel import LEAVES, Agent, Item, Kernel, Rank, Report, World
+from kernel import LEAVES, LEFT_OUT, Agent, Item, Kernel, Thread, World
+from ranks import policy_of
 from runs import COUNTS, LIMITS, OTHERS, ROW, Settings, Told
 
 # What is said of a run that stalled.
@@ -136,9 +137,9 @@ class Seen(World):
         it has read of the thread."""
         if name in listed:
             return name == listed[0]
-        ranks = [self.threads[it].now.rank(self.order) for it in [name, *listed]]
+        ranks = [self.threads[it].now.rank(self.order, it, cpu) for it in [name, *listed]]
         may_know = cpu in self.had_restart and self.heard[cpu] and name in self.own[cpu]
-        return bool(may_know) and ranks[0] == min(ranks)
+        return bool(may_know) and ranks[0] == min(ranks) < LEFT_OUT
 
     # How a steal may be answered
 
@@ -146,18 +147,19 @@ class Seen(World):
         """Where its run list is empty: as that of each thread that it may try is, up to one that it surely tries."""
         found = set[str]()
         idle = [it for it in self.threads if it.cpu is None]
-        for thread in sorted(idle, key=lambda it: (self.rank_of(it.now), it.name)):
+        for thread in sorted(idle, key=lambda it: (self.rank_of(it, cpu), it.name)):
             least = self.agents[cpu].upto.get(thread.name, 0)
             known = range(least, max(least, self.heard[cpu][thread.name]) + 1)
             tried = [it for it in known if it and thread.reports[it - 1].may_run(cpu)]
-            tried = [it for it in tried if it == thread.number] if self.exact else tried
+            if self.exact:
+                tried = [it for it in tried if it == thread.number and self.rank_of(thread, cpu) < LEFT_OUT]
             found |= {self.way(thread.name, it) for it in tried}
             if tried == [*known]:
                 return found
         return found | {"NothingToSteal"}
 
-    def rank_of(self, report: Report) -> Rank:
-        return report.rank(self.order) if self.exact else (0, 0)
+    def rank_of(self, thread: Thread, cpu: int) -> int:
+        return thread.now.rank(self.order, thread.name, cpu) if self.exact else 0
 
     def way(self, name: int, number: int) -> str:
         """How a steal of the thread is answered under this number."""
@@ -171,8 +173,7 @@ class Judge:
 
     def __init__(self, asked: Settings, policy: str, told: Told, by_seed: bool) -> None:
         self.asked, self.told, self.by_seed = asked, told, by_seed
-        order, _, exact = policy.partition(" ")
-        self.world = Seen(asked.cpus, *LIMITS, order, bool(exact))
+        self.world = Seen(asked.cpus, *LIMITS, *policy_of(policy.encode()))
         self.found: list[str] = []
         self.turns: list[list[Turn]] = [[] for _ in range(asked.cpus)]
         self.rouses = [0 for _ in self.turns]

@@ -8,6 +8,7 @@ from typing import NamedTuple
 
 from kernel import ENVIRONMENT, LEAVES, WORD32, WORD64, Agent, World
 from protocol import Machine, Note, Rule, Seat
+from ranks import policy_of
 from runs import COUNTS, LIMITS, OTHERS, Leave, Settings, Told, totals
 
 WEIGHTS = (1, 4, 16, 64)
@@ -79,8 +80,7 @@ class Run(Machine):
 
     def __init__(self, asked: Settings, policy: str, seed: int, without: Rule | None = None) -> None:
         super().__init__(asked.cpus, without)
-        order, _, exact = policy.partition(" ")
-        self.world = World(asked.cpus, *LIMITS, order, bool(exact))
+        self.world = World(asked.cpus, *LIMITS, *policy_of(policy.encode()))
         self.asked, self.seed, self.chance = asked, seed, Chance(seed)
         # The driver's, and those of agents.
         self.weights = [WEIGHTS[self.chance.word() % 4] for _ in range(1 + asked.cpus)]
