@@ -1,7 +1,7 @@
 -- What stands in front of parts, by how many parts the last code has.
 use Rattle.std.specs.Prelude.{◌≡◌, ℕ, ◌-◌, ◌≤◌, ◌⊎◌, List, ◌++◌, length, take, slice_index_or, refl}
 use Rattle.std.proofs.Common.{inl, inr}
-use Rattle.pc_rank.specs.Expressions.{Tree, Condition}
+use Rattle.pc_rank.specs.Expressions.{Condition}
 use Rattle.pc_rank.specs.Inner.Ends.{AtExpression, AtTest, AtTwo}
 use Rattle.pc_rank.specs.Layout.{test_layout}
 use Rattle.pc_rank.specs.declared.code.Code.{Code}

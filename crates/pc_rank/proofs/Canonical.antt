@@ -82,33 +82,33 @@ in_group true s = token.Open ∷ (s ++ token.Close ∷ [])
 in_group false s = s
 
 abbrev mutual
-  pub tokens_of : Tree → List Token
-  tokens_of (tree.Number k) = token.Number k ∷ []
-  tokens_of (tree.Given f) = token.Given f ∷ []
-  tokens_of tree.NoRank = token.NoRank ∷ []
-  tokens_of (tree.Infix o a b) =
-      in_group (is_loose a) (tokens_of a) ++ token.Infix o ∷ in_group (is_loose b && not (goes_on o b)) (tokens_of b)
-  tokens_of (tree.Call x a b) = token.Call x ∷ token.Open ∷ (tokens_of a ++ token.Comma ∷ (tokens_of b ++ token.Close ∷ []))
-  tokens_of (tree.Choice q a b) = token.If ∷ (tokens_of_test q ++ token.Then ∷ (tokens_of a ++ token.Else ∷ tokens_of b))
+  pub tree_tokens : Tree → List Token
+  tree_tokens (tree.Number k) = token.Number k ∷ []
+  tree_tokens (tree.Given f) = token.Given f ∷ []
+  tree_tokens tree.NoRank = token.NoRank ∷ []
+  tree_tokens (tree.Infix o a b) =
+      in_group (is_loose a) (tree_tokens a) ++ token.Infix o ∷ in_group (is_loose b && not (goes_on o b)) (tree_tokens b)
+  tree_tokens (tree.Call x a b) = token.Call x ∷ token.Open ∷ (tree_tokens a ++ token.Comma ∷ (tree_tokens b ++ token.Close ∷ []))
+  tree_tokens (tree.Choice q a b) = token.If ∷ (test_tokens q ++ token.Then ∷ (tree_tokens a ++ token.Else ∷ tree_tokens b))
 
-  pub tokens_of_test : Condition → List Token
-  tokens_of_test (tree.Compare c a b) = in_group (is_choice a) (tokens_of a) ++ token.Compare c ∷ in_group (is_choice b) (tokens_of b)
-  tokens_of_test (tree.Join j p q) = token.Open ∷ (tokens_of_test p ++ token.Close ∷ token.Join j ∷ in_group (not (is_joined_on j q)) (tokens_of_test q))
-  tokens_of_test (tree.Negate p) = token.Not ∷ token.Open ∷ (tokens_of_test p ++ token.Close ∷ [])
+  pub test_tokens : Condition → List Token
+  test_tokens (tree.Compare c a b) = in_group (is_choice a) (tree_tokens a) ++ token.Compare c ∷ in_group (is_choice b) (tree_tokens b)
+  test_tokens (tree.Join j p q) = token.Open ∷ (test_tokens p ++ token.Close ∷ token.Join j ∷ in_group (not (is_joined_on j q)) (test_tokens q))
+  test_tokens (tree.Negate p) = token.Not ∷ token.Open ∷ (test_tokens p ++ token.Close ∷ [])
 
 abbrev behind_operator : Operator → Tree → List Token
-behind_operator o b = in_group (is_loose b && not (goes_on o b)) (tokens_of b)
+behind_operator o b = in_group (is_loose b && not (goes_on o b)) (tree_tokens b)
 
 -- what is true of each part at so many levels
 record Written (n : ℕ) : Type 0 where
-  expression : (s : List Token) (a : Tree) → IsExpression n s a → IsExpression n (tokens_of a) a
-  term : (s : List Token) (a : Tree) → IsExpression n s a → is_loose a ≡ false → IsTerm n (tokens_of a) a
-  sum : (s : List Token) (a : Tree) → IsExpression n s a → is_choice a ≡ false → IsSum n (tokens_of a) a
-  link : (o : Operator) (s : List Token) (a : Tree) → IsExpression n s a → goes_on o a ≡ true → IsChain o n (tokens_of a) a
+  expression : (s : List Token) (a : Tree) → IsExpression n s a → IsExpression n (tree_tokens a) a
+  term : (s : List Token) (a : Tree) → IsExpression n s a → is_loose a ≡ false → IsTerm n (tree_tokens a) a
+  sum : (s : List Token) (a : Tree) → IsExpression n s a → is_choice a ≡ false → IsSum n (tree_tokens a) a
+  link : (o : Operator) (s : List Token) (a : Tree) → IsExpression n s a → goes_on o a ≡ true → IsChain o n (tree_tokens a) a
   chain_ : (o : Operator) (s : List Token) (a : Tree) → may_chain o ≡ true → IsChain o n s a → IsChain o n (behind_operator o a) a
-  test : (s : List Token) (q : Condition) → IsTest n s q → IsTest n (tokens_of_test q) q
-  joint : (j : Joiner) (s : List Token) (q : Condition) → IsTest n s q → is_joined_on j q ≡ true → IsJoined j n (tokens_of_test q) q
-  joined : (j : Joiner) (s : List Token) (q : Condition) → IsJoined j n s q → IsJoined j n (in_group (not (is_joined_on j q)) (tokens_of_test q)) q
+  test : (s : List Token) (q : Condition) → IsTest n s q → IsTest n (test_tokens q) q
+  joint : (j : Joiner) (s : List Token) (q : Condition) → IsTest n s q → is_joined_on j q ≡ true → IsJoined j n (test_tokens q) q
+  joined : (j : Joiner) (s : List Token) (q : Condition) → IsJoined j n s q → IsJoined j n (in_group (not (is_joined_on j q)) (test_tokens q)) q
 
 and_false : (b : Bool) → (b && false) ≡ false
 and_false true = refl
@@ -133,68 +133,68 @@ both_true false b e = cc
 
 module _ (n : ℕ) (below : Written n) where
   -- a term, in its parentheses
-  term_written : (s : List Token) (a : Tree) → IsTerm n s a → IsTerm n (in_group (is_loose a) (tokens_of a)) a
+  term_written : (s : List Token) (a : Tree) → IsTerm n s a → IsTerm n (in_group (is_loose a) (tree_tokens a)) a
   term_written _ _ number = number
   term_written _ _ given = given
   term_written _ _ no_rank = no_rank
   term_written _ _ (group {s} {a} h) = by_loose (is_loose a) refl
     where
-      by_loose : (b : Bool) → is_loose a ≡ b → IsTerm n (in_group b (tokens_of a)) a
+      by_loose : (b : Bool) → is_loose a ≡ b → IsTerm n (in_group b (tree_tokens a)) a
       by_loose true e = group (below.expression s a h)
       by_loose false e = below.term s a h e
   term_written _ _ (call {s} {t} {x} {a} {b} h k) = call (below.expression s a h) (below.expression t b k)
 
-  two_written : (o : Operator) (s t : List Token) (a b : Tree) → may_chain o ≡ false → IsTerm n s a → IsTerm n t b → IsSum n (tokens_of (tree.Infix o a b)) (tree.Infix o a b)
+  two_written : (o : Operator) (s t : List Token) (a b : Tree) → may_chain o ≡ false → IsTerm n s a → IsTerm n t b → IsSum n (tree_tokens (tree.Infix o a b)) (tree.Infix o a b)
   two_written o s t a b may h k =
       let grouped : (is_loose b && not (goes_on o b)) ≡ is_loose b = ap (λ g. is_loose b && not g) (no_chain_goes_on o b may) ∙ and_true (is_loose b) in
-      let other : IsTerm n (behind_operator o b) b = subst (λ g. IsTerm n (in_group g (tokens_of b)) b) (sym grouped) (term_written t b k) in
+      let other : IsTerm n (behind_operator o b) b = subst (λ g. IsTerm n (in_group g (tree_tokens b)) b) (sym grouped) (term_written t b k) in
       two may (term_written s a h) other
 
   -- a sum, in parentheses where it is a choice
-  sum_written : (s : List Token) (a : Tree) → IsSum n s a → IsSum n (in_group (is_choice a) (tokens_of a)) a
+  sum_written : (s : List Token) (a : Tree) → IsSum n s a → IsSum n (in_group (is_choice a) (tree_tokens a)) a
   sum_written _ _ (single number) = single number
   sum_written _ _ (single given) = single given
   sum_written _ _ (single no_rank) = single no_rank
   sum_written _ _ (single (call {s} {t} {x} {a} {b} h k)) = single (call (below.expression s a h) (below.expression t b k))
   sum_written _ _ (single (group {s} {a} h)) = by_choice (is_choice a) refl
     where
-      by_choice : (b : Bool) → is_choice a ≡ b → IsSum n (in_group b (tokens_of a)) a
+      by_choice : (b : Bool) → is_choice a ≡ b → IsSum n (in_group b (tree_tokens a)) a
       by_choice true e = single (group (below.expression s a h))
       by_choice false e = below.sum s a h e
   sum_written _ _ (chain {s} {t} {o} {a} {b} may h k) = chain may (term_written s a h) (below.chain_ o t b may k)
   sum_written _ _ (two {s} {t} {o} {a} {b} may h k) = two_written o s t a b may h k
 
-  expression_written : (s : List Token) (a : Tree) → IsExpression (suc n) s a → IsExpression (suc n) (tokens_of a) a
+  expression_written : (s : List Token) (a : Tree) → IsExpression (suc n) s a → IsExpression (suc n) (tree_tokens a) a
   expression_written _ _ (choice {s} {t} {u} {q} {a} {b} h i j) = choice (below.test s q h) (below.expression t a i) (below.expression u b j)
   expression_written _ _ (plain (single number)) = plain (single number)
   expression_written _ _ (plain (single given)) = plain (single given)
   expression_written _ _ (plain (single no_rank)) = plain (single no_rank)
   expression_written _ _ (plain (single (call {s} {t} {x} {a} {b} h k))) = plain (single (call (below.expression s a h) (below.expression t b k)))
-  expression_written _ _ (plain (single (group {s} {a} h))) = (rises n).expressions (tokens_of a) a (below.expression s a h)
+  expression_written _ _ (plain (single (group {s} {a} h))) = (rises n).expressions (tree_tokens a) a (below.expression s a h)
   expression_written _ _ (plain (chain {s} {t} {o} {a} {b} may h k)) = plain (chain may (term_written s a h) (below.chain_ o t b may k))
   expression_written _ _ (plain (two {s} {t} {o} {a} {b} may h k)) = plain (two_written o s t a b may h k)
 
-  loose_written : (s : List Token) (a : Tree) → IsExpression (suc n) s a → is_loose a ≡ false → IsTerm (suc n) (tokens_of a) a
+  loose_written : (s : List Token) (a : Tree) → IsExpression (suc n) s a → is_loose a ≡ false → IsTerm (suc n) (tree_tokens a) a
   loose_written _ _ (plain (single {s} {a} h)) e =
-      rise_term n (tokens_of a) a (subst (λ b. IsTerm n (in_group b (tokens_of a)) a) e (term_written s a h))
+      rise_term n (tree_tokens a) a (subst (λ b. IsTerm n (in_group b (tree_tokens a)) a) e (term_written s a h))
   loose_written _ _ (plain (chain may h k)) e = cc
   loose_written _ _ (plain (two may h k)) e = cc
   loose_written _ _ (choice h i j) e = cc
 
-  choice_written : (s : List Token) (a : Tree) → IsExpression (suc n) s a → is_choice a ≡ false → IsSum (suc n) (tokens_of a) a
+  choice_written : (s : List Token) (a : Tree) → IsExpression (suc n) s a → is_choice a ≡ false → IsSum (suc n) (tree_tokens a) a
   choice_written _ _ (plain {s = s} {a = a} h) e =
-      rise_sum n (tokens_of a) a (subst (λ b. IsSum n (in_group b (tokens_of a)) a) e (sum_written s a h))
+      rise_sum n (tree_tokens a) a (subst (λ b. IsSum n (in_group b (tree_tokens a)) a) e (sum_written s a h))
   choice_written _ _ (choice h i j) e = cc
 
-  link_written : (o : Operator) (s : List Token) (a : Tree) → IsExpression (suc n) s a → goes_on o a ≡ true → IsChain o (suc n) (tokens_of a) a
+  link_written : (o : Operator) (s : List Token) (a : Tree) → IsExpression (suc n) s a → goes_on o a ≡ true → IsChain o (suc n) (tree_tokens a) a
   link_written o _ _ (plain (single number)) e = cc
   link_written o _ _ (plain (single given)) e = cc
   link_written o _ _ (plain (single no_rank)) e = cc
   link_written o _ _ (plain (single (call h k))) e = cc
-  link_written o _ _ (plain (single (group {s} {a} h))) e = (rises n).chains o (tokens_of a) a (below.link o s a h e)
+  link_written o _ _ (plain (single (group {s} {a} h))) e = (rises n).chains o (tree_tokens a) a (below.link o s a h e)
   link_written o _ _ (plain (chain {s} {t} {o = p} {a} {b} may h k)) e =
       let same = same_operator o p (both_true (may_chain o) (is_operator o p) e).1 in
-      subst (λ r. IsChain r (suc n) (tokens_of (tree.Infix p a b)) (tree.Infix p a b)) (sym same) (more (term_written s a h) (below.chain_ p t b may k))
+      subst (λ r. IsChain r (suc n) (tree_tokens (tree.Infix p a b)) (tree.Infix p a b)) (sym same) (more (term_written s a h) (below.chain_ p t b may k))
   link_written o _ _ (plain (two {s} {t} {o = p} {a} {b} may h k)) e =
       let both = both_true (may_chain o) (is_operator o p) e in
       let no : true ≡ false = sym both.0 ∙ ap may_chain (same_operator o p both.1) ∙ may in cc
@@ -207,32 +207,32 @@ module _ (n : ℕ) (below : Written n) where
   chain_written _ _ _ may (last (call {s} {t} {x} {a} {b} h k)) = last (call (below.expression s a h) (below.expression t b k))
   chain_written o _ _ may (last (group {s} {a} h)) = by_goes (goes_on o a) refl
     where
-      by_goes : (b : Bool) → goes_on o a ≡ b → IsChain o (suc n) (in_group (is_loose a && not b) (tokens_of a)) a
-      by_goes true e = subst (λ g. IsChain o (suc n) (in_group g (tokens_of a)) a) (sym (and_false (is_loose a))) ((rises n).chains o (tokens_of a) a (below.link o s a h e))
-      by_goes false e = subst (λ g. IsChain o (suc n) (in_group g (tokens_of a)) a) (sym (and_true (is_loose a))) (last (term_written _ a (group h)))
+      by_goes : (b : Bool) → goes_on o a ≡ b → IsChain o (suc n) (in_group (is_loose a && not b) (tree_tokens a)) a
+      by_goes true e = subst (λ g. IsChain o (suc n) (in_group g (tree_tokens a)) a) (sym (and_false (is_loose a))) ((rises n).chains o (tree_tokens a) a (below.link o s a h e))
+      by_goes false e = subst (λ g. IsChain o (suc n) (in_group g (tree_tokens a)) a) (sym (and_true (is_loose a))) (last (term_written _ a (group h)))
   chain_written _ _ _ may (more {s} {t} {o} {a} {b} h k) =
       let goes : goes_on o (tree.Infix o a b) ≡ true = ap (λ m. m && is_operator o o) may ∙ itself o in
-      subst (λ g. IsChain o (suc n) (in_group (not g) (tokens_of (tree.Infix o a b))) (tree.Infix o a b)) (sym goes) (more (term_written s a h) (below.chain_ o t b may k))
+      subst (λ g. IsChain o (suc n) (in_group (not g) (tree_tokens (tree.Infix o a b))) (tree.Infix o a b)) (sym goes) (more (term_written s a h) (below.chain_ o t b may k))
 
-  test_written : (s : List Token) (q : Condition) → IsTest (suc n) s q → IsTest (suc n) (tokens_of_test q) q
+  test_written : (s : List Token) (q : Condition) → IsTest (suc n) s q → IsTest (suc n) (test_tokens q) q
   test_written _ _ (compare {s} {t} {c} {a} {b} h k) = compare (sum_written s a h) (sum_written t b k)
   test_written _ _ (join {s} {t} {j} {p} {q} h k) = join (below.test s p h) (below.joined j t q k)
   test_written _ _ (negate {s} {p} h) = negate (below.test s p h)
 
-  joint_written : (j : Joiner) (s : List Token) (q : Condition) → IsTest (suc n) s q → is_joined_on j q ≡ true → IsJoined j (suc n) (tokens_of_test q) q
+  joint_written : (j : Joiner) (s : List Token) (q : Condition) → IsTest (suc n) s q → is_joined_on j q ≡ true → IsJoined j (suc n) (test_tokens q) q
   joint_written j _ _ (compare h k) e = cc
   joint_written j _ _ (join {s} {t} {j = i} {p} {q} h k) e =
-      subst (λ r. IsJoined r (suc n) (tokens_of_test (tree.Join i p q)) (tree.Join i p q)) (sym (same_joiner j i e)) (more_tests (below.test s p h) (below.joined i t q k))
+      subst (λ r. IsJoined r (suc n) (test_tokens (tree.Join i p q)) (tree.Join i p q)) (sym (same_joiner j i e)) (more_tests (below.test s p h) (below.joined i t q k))
   joint_written j _ _ (negate h) e = cc
 
-  joined_written : (j : Joiner) (s : List Token) (q : Condition) → IsJoined j (suc n) s q → IsJoined j (suc n) (in_group (not (is_joined_on j q)) (tokens_of_test q)) q
+  joined_written : (j : Joiner) (s : List Token) (q : Condition) → IsJoined j (suc n) s q → IsJoined j (suc n) (in_group (not (is_joined_on j q)) (test_tokens q)) q
   joined_written _ _ _ (last_test {s} {j} {p} h) = by_joint (is_joined_on j p) refl
     where
-      by_joint : (b : Bool) → is_joined_on j p ≡ b → IsJoined j (suc n) (in_group (not b) (tokens_of_test p)) p
-      by_joint true e = (rises n).joins j (tokens_of_test p) p (below.joint j s p h e)
+      by_joint : (b : Bool) → is_joined_on j p ≡ b → IsJoined j (suc n) (in_group (not b) (test_tokens p)) p
+      by_joint true e = (rises n).joins j (test_tokens p) p (below.joint j s p h e)
       by_joint false e = last_test (below.test s p h)
   joined_written _ _ _ (more_tests {s} {t} {j} {p} {q} h k) =
-      subst (λ g. IsJoined j (suc n) (in_group (not g) (tokens_of_test (tree.Join j p q))) (tree.Join j p q)) (sym (same_word j)) (more_tests (below.test s p h) (below.joined j t q k))
+      subst (λ g. IsJoined j (suc n) (in_group (not g) (test_tokens (tree.Join j p q))) (tree.Join j p q)) (sym (same_word j)) (more_tests (below.test s p h) (below.joined j t q k))
 
 written : (n : ℕ) → Written n
 written zero = record {
@@ -258,5 +258,5 @@ written (suc n) =
       joined = joined_written n below;
     }
 
-pub written_is_derived : (n : ℕ) (s : List Token) (a : Tree) → IsExpression n s a → IsExpression n (tokens_of a) a
+pub written_is_derived : (n : ℕ) (s : List Token) (a : Tree) → IsExpression n s a → IsExpression n (tree_tokens a) a
 written_is_derived n = (written n).expression

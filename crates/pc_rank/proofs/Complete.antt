@@ -1,10 +1,9 @@
 -- What the grammar derives is read.
 use Rattle.std.proofs.Common.{◌≡◌, ℕ, zero, suc, true, false, not, cond, List, [], ◌∷◌, ◌++◌, Option, Some, None, Result, Ok, Err, refl, sym, ap, ◌∙◌, append_assoc}
 use Rattle.std.proofs.lemmas.List.{append-nil}
-use Rattle.pc_rank.specs.Expressions.{Tree, Condition}
+use Rattle.pc_rank.specs.Expressions.{Tree, Condition, Found, Rank, Test}
 use Rattle.pc_rank.specs.Expressions as tree
 use Rattle.pc_rank.specs.Grammar.{IsExpression, IsSum, IsChain, IsTerm, IsTest, IsJoined, plain, choice, single, chain, two, last, more, number, given, no_rank, group, call, compare, join, negate, last_test, more_tests}
-use Rattle.pc_rank.specs.Nodes.{Found, Rank, Test}
 use Rattle.pc_rank.specs.Inner.Reading.{◌>>=◌, Readers, halt, operator_of, next_operator, joiner_of, next_joiner, comparison_of, next_comparison, behind, meets, mixes, as_rank, rank_in, as_test, test_in, choice_in, call_in, group_in, term_in, ended, ended_of, chain_in, two_in, infix_in, after_of, after_in, sum_in, compared_of, compared_in, grouped_in, more_in, joined_of, joined_in, opened_in, either_in, expression_in, tested_in, tests_in, part_in, part_at, whole}
 use Rattle.pc_rank.specs.Texts.{is_joiner, is_operator, may_chain}
 use Rattle.pc_rank.specs.declared.fault.Wanted.TheVariants as wanted

@@ -1,15 +1,17 @@
 -- A text is cut into its tokens.
-use Rattle.std.proofs.Common.{◌≡◌, ℕ, suc, ◌<◌, ◌^◌, ◌==◌, Bool, true, false, not, ◌&&◌, cond, List, [], ◌∷◌, ◌++◌, length, get_or, take, drop, codes, decimal, bytes_eq, refl, sym, ap, subst, ◌∙◌, ◌⊎◌, inl, inr, ⊎_elim, arith, append_assoc, length-append}
+use Rattle.std.proofs.Common.{◌≡◌, ℕ, zero, suc, ◌+◌, ◌<◌, ◌≤◌, ◌^◌, ◌==◌, Bool, true, false, not, ◌&&◌, cond, List, [], ◌∷◌, ◌++◌, length, get_or, take, drop, codes, decimal, bytes_eq, refl, sym, ap, subst, ◌∙◌, ◌⊎◌, inl, inr, ⊎_elim, arith, append_assoc, length-append, length-drop}
+use Rattle.std.specs.Char.{is_ascii_digit}
 use Rattle.std.specs.Int.{IsInRange}
-use Rattle.std.specs.List.{AllByRecursion}
-use Rattle.std.specs.Str.Parse.{AllDigits}
+use Rattle.std.specs.Prelude.{nat_lt}
+use Rattle.std.specs.Str.Parse.{AllDigits, digits_value}
 use Rattle.std.proofs.lemmas.Bool.Decides.{nat_tests}
-use Rattle.std.proofs.lemmas.Fmt.{decimal_nonempty, digits_decimal, decimal_injective}
-use Rattle.std.proofs.lemmas.List.{take-append-drop, append-nil}
+use Rattle.std.proofs.lemmas.Fmt.{decimal_nonempty, digits_decimal, decimal_injective, digits_value-decimal}
+use Rattle.std.proofs.lemmas.List.{take-append-drop, append-nil, take_more_set}
+use Rattle.std.proofs.Math.ListN.{set}
 use Rattle.std.proofs.Math.Seq.{take-append_seam, drop-append_seam}
 use Rattle.std.proofs.lemmas.Slice.Eq.{bytes_eq-Decides}
 use Rattle.std.proofs.lemmas.Str.Parse.{digit_from_value}
-use Rattle.pc_rank.specs.Inner.Cutting.{BeginsWith, Cuts, HasTokens, IsNamed, before_equals, doubles, IsKnown, fact_named, is_sign, letters, sign_at, single, word_named}
+use Rattle.pc_rank.specs.Inner.Cutting.{before_equals, doubles, fact_named, first_token, is_number, letters, sign_at, single, tokens_of, tokens_within, word_named, word_token}
 use Rattle.pc_rank.specs.Tokens.{IsToken, Spells, done, space, one, begins, is_of_word, lengthens, token_text}
 use Rattle.pc_rank.specs.declared.facts.Fact.TheVariants as fact
 use Rattle.pc_rank.specs.declared.operators.Comparison.TheVariants as comparison
@@ -18,6 +20,7 @@ use Rattle.pc_rank.specs.declared.operators.Joiner.TheVariants as joiner
 use Rattle.pc_rank.specs.declared.operators.Operator.TheVariants as operator
 use Rattle.pc_rank.specs.declared.token.Token.{Token}
 use Rattle.pc_rank.specs.declared.token.Token.TheVariants as token
+use Rattle.pc_rank.proofs.Cuts.{Cuts, HasTokens, IsKnown, IsNamed, is_sign}
 use Rattle.pc_rank.proofs.Numerals.{own, is_digit_at}
 
 -- ---- words
@@ -27,7 +30,7 @@ abbrev pub all_of_word : List ℕ → Bool
 all_of_word [] = true
 all_of_word (byte ∷ bytes) = is_of_word byte && all_of_word bytes
 
-both : (a b : Bool) → (a && b) ≡ true → (a ≡ true) × (b ≡ true)
+pub both : (a b : Bool) → (a && b) ≡ true → (a ≡ true) × (b ≡ true)
 both true b e = (refl, e)
 both false b e = cc
 
@@ -39,12 +42,12 @@ digits_of_word [] h = refl
 digits_of_word (d ∷ ds) h =
     ap (λ b. b && all_of_word ds) (digit_of_word d (digit_from_value d h.0)) ∙ digits_of_word ds h.1
 
-pub letters_none : (rest : List ℕ) → begins is_of_word rest ≡ false → letters rest ≡ 0
+letters_none : (rest : List ℕ) → begins is_of_word rest ≡ false → letters rest ≡ 0
 letters_none [] h = refl
 letters_none (b ∷ bs) h = ap (λ t. cond t (suc (letters bs)) 0) h
 
 -- a word is as long as letters stand in front, where none stands behind it
-pub letters_word : (word rest : List ℕ) → all_of_word word ≡ true → begins is_of_word rest ≡ false → letters (word ++ rest) ≡ length word
+letters_word : (word rest : List ℕ) → all_of_word word ≡ true → begins is_of_word rest ≡ false → letters (word ++ rest) ≡ length word
 letters_word [] rest all none = letters_none rest none
 letters_word (b ∷ bs) rest all none =
     let here = both (is_of_word b) (all_of_word bs) all in
@@ -62,14 +65,14 @@ none_behind (b ∷ bs) = by_test (is_of_word b) refl (none_behind bs)
 -- ---- which token it is
 
 -- a word begins with a letter or a digit, and all of it is of them
-pub record IsWord (word : List ℕ) : Type 0 where
+record IsWord (word : List ℕ) : Type 0 where
   pub some : 0 < length word
   pub all : all_of_word word ≡ true
 
 is_word : (word : List ℕ) → 0 < length word → all_of_word word ≡ true → IsWord word
 is_word word some all = record { some = some; all = all }
 
-pub wordy : (t : Token) → IsToken t → is_sign t ≡ false → IsWord (token_text t)
+wordy : (t : Token) → IsToken t → is_sign t ≡ false → IsWord (token_text t)
 wordy (token.Number n) h e = is_word (decimal n) (decimal_nonempty n h) (digits_of_word (decimal n) (digits_decimal own n h))
 wordy (token.Given fact.Level) h e = is_word _ (omega arith) refl
 wordy (token.Given fact.Ran) h e = is_word _ (omega arith) refl
@@ -94,7 +97,7 @@ wordy token.NoNumber h e = absurd h
 wordy token.Unknown h e = absurd h
 
 -- a word or a number goes on with a letter or a digit
-pub word_lengthens : (t : Token) → is_sign t ≡ false → lengthens t ≡ is_of_word
+word_lengthens : (t : Token) → is_sign t ≡ false → lengthens t ≡ is_of_word
 word_lengthens (token.Number n) e = refl
 word_lengthens (token.Given f) e = refl
 word_lengthens token.NoRank e = refl
@@ -113,7 +116,7 @@ word_lengthens token.NoNumber e = refl
 word_lengthens token.Unknown e = refl
 
 -- a sign begins with a byte that is neither of a word nor a space
-pub record Sign (t : Token) : Type 0 where
+record Sign (t : Token) : Type 0 where
   pub first : ℕ
   pub more : List ℕ
   pub text : token_text t ≡ first ∷ more
@@ -147,7 +150,7 @@ sign_text (token.Join j) e = cc
 sign_text token.NoNumber e = cc
 sign_text token.Unknown e = cc
 
-pub sign_first : (t : Token) (behind : List ℕ) → is_sign t ≡ true → begins is_of_word (token_text t ++ behind) ≡ false
+sign_first : (t : Token) (behind : List ℕ) → is_sign t ≡ true → begins is_of_word (token_text t ++ behind) ≡ false
 sign_first t behind e = let sign = sign_text t e in ap (λ w. begins is_of_word (w ++ behind)) sign.text ∙ sign.no_letter
 
 -- ---- names
@@ -184,13 +187,13 @@ word_sound word =
     pick word (codes "or") (token.Join joiner.Or) (fact_named word) tt refl refl (fact_sound word))))))))
 
 -- words that are no numbers
-abbrev pub is_name : Token → Bool
+abbrev is_name : Token → Bool
 is_name (token.Number n) = false
 is_name token.NoNumber = false
 is_name token.Unknown = false
 is_name t = not (is_sign t)
 
-pub named_only : (t : Token) → is_name t ≡ true → word_named (token_text t) ≡ t
+named_only : (t : Token) → is_name t ≡ true → word_named (token_text t) ≡ t
 named_only (token.Given fact.Level) e = refl
 named_only (token.Given fact.Ran) e = refl
 named_only (token.Given fact.Thread) e = refl
@@ -215,7 +218,7 @@ named_only token.NoNumber e = cc
 named_only token.Unknown e = cc
 
 -- no such word begins with a digit
-pub name_first : (t : Token) → is_name t ≡ true → IsInRange 48 57 (get_or (token_text t) 0 0) → ⊥
+name_first : (t : Token) → is_name t ≡ true → IsInRange 48 57 (get_or (token_text t) 0 0) → ⊥
 name_first (token.Given fact.Level) e h = omega (arith, h)
 name_first (token.Given fact.Ran) e h = omega (arith, h)
 name_first (token.Given fact.Thread) e h = omega (arith, h)
@@ -240,7 +243,7 @@ name_first token.NoNumber e h = cc
 name_first token.Unknown e h = cc
 
 -- a token that is no sign is a number or a name
-pub kinds : (t : Token) → IsToken t → is_sign t ≡ false → ((n : ℕ) × (n < 2 ^ 64) × (t ≡ token.Number n)) ⊎ (is_name t ≡ true)
+kinds : (t : Token) → IsToken t → is_sign t ≡ false → ((n : ℕ) × (n < 2 ^ 64) × (t ≡ token.Number n)) ⊎ (is_name t ≡ true)
 kinds (token.Number n) h e = inl (n, h, refl)
 kinds (token.Given f) h e = inr refl
 kinds token.NoRank h e = inr refl
@@ -258,17 +261,104 @@ kinds token.Comma h e = cc
 kinds token.NoNumber h e = absurd h
 kinds token.Unknown h e = absurd h
 
-pub number_named : (word : List ℕ) (n : ℕ) → 0 < length word → n < 2 ^ 64 → word ≡ decimal n → IsNamed word (token.Number n)
-number_named word n some small is = record {
-  kind = refl;
-  sound = λ h. (small, is);
-  only = λ t h e same. ⊎_elim
-      (λ number. let text : decimal n ≡ decimal number.0 = sym is ∙ same ∙ ap token_text number.2 in ap token.Number (decimal_injective n number.0 small number.1 text) ∙ sym number.2)
-      (λ name. absurd (name_first t name (subst (λ w. IsInRange 48 57 (get_or w 0 0)) same (is_digit_at word n 0 small is some))))
-      (kinds t h e);
-}
+-- ---- numbers
 
-pub no_number_named : (word : List ℕ) → IsInRange 48 57 (get_or word 0 0) → ((n : ℕ) → n < 2 ^ 64 → word ≡ decimal n → ⊥) → IsNamed word token.NoNumber
+is_below : (a b : ℕ) → a < b → nat_lt a b ≡ true
+is_below a b h = grind (arith, nat_tests)
+
+is_above : (a b : ℕ) → nat_lt a b ≡ true → a < b
+is_above a b e = grind (arith, nat_tests)
+
+-- a word that writes a number is one, and writes its value
+value_is : (word : List ℕ) (n : ℕ) → n < 2 ^ 64 → word ≡ decimal n → digits_value 10 word ≡ n
+value_is word n small is = ap (digits_value 10) is ∙ digits_value-decimal own n small
+
+is_tested : (word : List ℕ) (n : ℕ) → n < 2 ^ 64 → word ≡ decimal n → is_number word ≡ true
+unfolding is_number
+is_tested word n small is =
+    let value = value_is word n small is in
+    let same : word ≡ decimal (digits_value 10 word) = is ∙ ap decimal (sym value) in
+    ap (λ b. b && bytes_eq word (decimal (digits_value 10 word))) (is_below (digits_value 10 word) (2 ^ 64) (omega (arith, value, small)))
+    ∙ (bytes_eq-Decides word (decimal (digits_value 10 word))).1 same
+
+-- which number it is
+record IsValue (word : List ℕ) : Type 0 where
+  small : digits_value 10 word < 2 ^ 64
+  is : word ≡ decimal (digits_value 10 word)
+
+value_of : (word : List ℕ) → is_number word ≡ true → IsValue word
+unfolding is_number
+value_of word e =
+    let tests = both (nat_lt (digits_value 10 word) (2 ^ 64)) (bytes_eq word (decimal (digits_value 10 word))) e in
+    record {
+      small = is_above (digits_value 10 word) (2 ^ 64) tests.0;
+      is = (bytes_eq-Decides word (decimal (digits_value 10 word))).0 tests.1;
+    }
+
+abbrev pub NoNumber : List ℕ → Type 0
+NoNumber word = (n : ℕ) → n < 2 ^ 64 → word ≡ decimal n → ⊥
+
+not_tested : (word : List ℕ) → NoNumber word → is_number word ≡ false
+not_tested word none = by_test (is_number word) refl
+  where
+    by_test : (b : Bool) → is_number word ≡ b → b ≡ false
+    by_test false e = refl
+    by_test true e = let value = value_of word e in absurd (none (digits_value 10 word) value.small value.is)
+
+none_tested : (word : List ℕ) → is_number word ≡ false → NoNumber word
+none_tested word e = λ n small is. let no : true ≡ false = sym (is_tested word n small is) ∙ e in cc
+
+-- ---- the token of a word
+
+digit_first : (word : List ℕ) → begins is_ascii_digit word ≡ true → IsInRange 48 57 (get_or word 0 0)
+digit_first [] e = cc
+digit_first (b ∷ bs) e = in_range b e
+  where
+    in_range : (c : ℕ) → is_ascii_digit c ≡ true → IsInRange 48 57 c
+    in_range c e = grind (arith, nat_tests)
+
+first_digit : (word : List ℕ) → 0 < length word → IsInRange 48 57 (get_or word 0 0) → begins is_ascii_digit word ≡ true
+first_digit [] some h = absurd (omega (arith, some))
+first_digit (b ∷ bs) some h = tested b h
+  where
+    tested : (c : ℕ) → IsInRange 48 57 c → is_ascii_digit c ≡ true
+    tested c h = grind (arith, nat_tests)
+
+pub number_token : (word : List ℕ) (n : ℕ) → n < 2 ^ 64 → word ≡ decimal n → token.Number n ≡ word_token word
+unfolding word_token
+number_token word n small is =
+    ap token.Number (sym (value_is word n small is))
+    ∙ sym (ap (λ b. cond b (token.Number (digits_value 10 word)) (cond (begins is_ascii_digit word) token.NoNumber (word_named word))) (is_tested word n small is))
+
+other_token : (word : List ℕ) → NoNumber word → (b : Bool) → begins is_ascii_digit word ≡ b → word_token word ≡ cond b token.NoNumber (word_named word)
+unfolding word_token
+other_token word none b e =
+    ap (λ b. cond b (token.Number (digits_value 10 word)) (cond (begins is_ascii_digit word) token.NoNumber (word_named word))) (not_tested word none)
+    ∙ ap (λ b. cond b token.NoNumber (word_named word)) e
+
+pub no_number_token : (word : List ℕ) → 0 < length word → IsInRange 48 57 (get_or word 0 0) → NoNumber word → token.NoNumber ≡ word_token word
+no_number_token word some digit none = sym (other_token word none true (first_digit word some digit))
+
+pub name_token : (word : List ℕ) → (IsInRange 48 57 (get_or word 0 0) → ⊥) → NoNumber word → word_named word ≡ word_token word
+name_token word no_digit none = by_test (begins is_ascii_digit word) refl
+  where
+    by_test : (b : Bool) → begins is_ascii_digit word ≡ b → word_named word ≡ word_token word
+    by_test true e = absurd (no_digit (digit_first word e))
+    by_test false e = sym (other_token word none false e)
+
+number_named : (word : List ℕ) (n : ℕ) → n < 2 ^ 64 → word ≡ decimal n → IsNamed word (token.Number n)
+number_named word n small is =
+    let some : 0 < length word = subst (λ w. 0 < length w) (sym is) (decimal_nonempty n small) in
+    record {
+      kind = refl;
+      sound = λ h. (small, is);
+      only = λ t h e same. ⊎_elim
+          (λ number. let text : decimal n ≡ decimal number.0 = sym is ∙ same ∙ ap token_text number.2 in ap token.Number (decimal_injective n number.0 small number.1 text) ∙ sym number.2)
+          (λ name. absurd (name_first t name (subst (λ w. IsInRange 48 57 (get_or w 0 0)) same (is_digit_at word n 0 small is some))))
+          (kinds t h e);
+    }
+
+no_number_named : (word : List ℕ) → IsInRange 48 57 (get_or word 0 0) → NoNumber word → IsNamed word token.NoNumber
 no_number_named word digit none = record {
   kind = refl;
   sound = λ h. absurd h;
@@ -278,8 +368,8 @@ no_number_named word digit none = record {
       (kinds t h e);
 }
 
-named_by : (word : List ℕ) → ((n : ℕ) → n < 2 ^ 64 → word ≡ decimal n → ⊥) → IsNamed word (word_named word)
-named_by word none = record {
+name_named : (word : List ℕ) → NoNumber word → IsNamed word (word_named word)
+name_named word none = record {
   kind = (word_sound word).0;
   sound = (word_sound word).1;
   only = λ t h e same. ⊎_elim
@@ -288,8 +378,18 @@ named_by word none = record {
       (kinds t h e);
 }
 
-pub name_named : (word : List ℕ) (found : Token) → found ≡ word_named word → ((n : ℕ) → n < 2 ^ 64 → word ≡ decimal n → ⊥) → IsNamed word found
-name_named word found is none = subst (IsNamed word) (sym is) (named_by word none)
+is_named : (word : List ℕ) → IsNamed word (word_token word)
+is_named word = by_number (is_number word) refl
+  where
+    by_digit : (none : NoNumber word) (b : Bool) → begins is_ascii_digit word ≡ b → IsNamed word (word_token word)
+    by_digit none true e = subst (IsNamed word) (sym (other_token word none true e)) (no_number_named word (digit_first word e) none)
+    by_digit none false e = subst (IsNamed word) (sym (other_token word none false e)) (name_named word none)
+
+    by_number : (b : Bool) → is_number word ≡ b → IsNamed word (word_token word)
+    by_number true e =
+        let value = value_of word e in
+        subst (IsNamed word) (number_token word (digits_value 10 word) value.small value.is) (number_named word (digits_value 10 word) value.small value.is)
+    by_number false e = by_digit (none_tested word e) (begins is_ascii_digit word) refl
 
 -- ---- the first token
 
@@ -312,13 +412,6 @@ cut_word text found some named = record {
         let back : drop (letters text) text ≡ behind = ap (λ n. drop n text) size ∙ ap (drop (length (token_text t))) is ∙ drop-append_seam (token_text t) behind in
         (named.only t h e front, back)
 
-pub cut_at : (text : List ℕ) (n : ℕ) (word rest : List ℕ) (found : Token) → n ≡ letters text → (n ≡ 0 → ⊥) → word ≡ take n text → rest ≡ drop n text → IsNamed word found → Cuts text found rest
-cut_at text n word rest found is some word_is rest_is named =
-    let here = ap (λ k. take k text) is in
-    let there = ap (λ k. drop k text) is in
-    subst (Cuts text found) (sym (rest_is ∙ there))
-    (cut_word text found (omega (arith, is, some)) (subst (λ w. IsNamed w found) (word_is ∙ here) named))
-
 -- ---- signs
 
 never : (rest : List ℕ) → begins (λ b. false) rest ≡ false
@@ -327,6 +420,12 @@ never (b ∷ bs) = refl
 
 equal : (a b : ℕ) → (a == b) ≡ true → a ≡ b
 equal a b e = grind (arith, nat_tests)
+
+unequal : (a b : ℕ) → (a ≡ b → ⊥) → (a == b) ≡ false
+unequal a b h = grind (arith, nat_tests)
+
+not_zero : (a : ℕ) → (a == 0) ≡ false → 0 < a
+not_zero a e = grind (arith, nat_tests)
 
 -- the bytes in front are those of the token, with nothing behind them that would belong to it
 abbrev FitsIn : List ℕ → List ℕ → Token → Type 0
@@ -389,7 +488,7 @@ alone byte (next ∷ bytes) e d =
     ap (λ b. cond (b && next == 61) (before_equals byte, bytes) (single byte, next ∷ bytes)) d
     ∙ ap (λ b. cond b (before_equals byte, bytes) (single byte, next ∷ bytes)) e
 
-pub sign_only : (t : Token) (behind : List ℕ) → is_sign t ≡ true → begins (lengthens t) behind ≡ false → sign_at (token_text t ++ behind) ≡ (t, behind)
+sign_only : (t : Token) (behind : List ℕ) → is_sign t ≡ true → begins (lengthens t) behind ≡ false → sign_at (token_text t ++ behind) ≡ (t, behind)
 sign_only (token.Infix operator.Plus) behind e none = undoubled 43 behind refl
 sign_only (token.Infix operator.Times) behind e none = undoubled 42 behind refl
 sign_only (token.Infix operator.Minus) behind e none = undoubled 45 behind refl
@@ -423,20 +522,65 @@ letters_some (b ∷ bs) behind h =
     let is : letters ((b ∷ bs) ++ behind) ≡ suc (letters (bs ++ behind)) = ap (λ t. cond t (suc (letters (bs ++ behind))) 0) (both (is_of_word b) (all_of_word bs) h.all).0 in
     omega (arith, is)
 
-pub cut_sign : (text : List ℕ) (found : Token) (rest : List ℕ) → (found, rest) ≡ sign_at text → (n : ℕ) → n ≡ letters text → n ≡ 0 → Cuts text found rest
-cut_sign text found rest is n count zero_letters = record {
-  sound = subst (FitsAt text) (sym is) (sign_fits text);
+cut_sign : (text : List ℕ) → letters text ≡ 0 → Cuts text (sign_at text).0 (sign_at text).1
+cut_sign text zero_letters = record {
+  sound = sign_fits text;
   only = λ t behind h none same. by_kind t behind h none same (is_sign t) refl;
 }
   where
-    by_kind : (t : Token) (behind : List ℕ) → IsToken t → begins (lengthens t) behind ≡ false → text ≡ token_text t ++ behind → (b : Bool) → is_sign t ≡ b → (found ≡ t) × (rest ≡ behind)
+    by_kind : (t : Token) (behind : List ℕ) → IsToken t → begins (lengthens t) behind ≡ false → text ≡ token_text t ++ behind → (b : Bool) → is_sign t ≡ b → ((sign_at text).0 ≡ t) × ((sign_at text).1 ≡ behind)
     by_kind t behind h none same true e =
-        let pairs : (found, rest) ≡ (t, behind) = is ∙ ap sign_at same ∙ sign_only t behind e none in
+        let pairs : sign_at text ≡ (t, behind) = ap sign_at same ∙ sign_only t behind e none in
         (ap (λ (p : Token × List ℕ). p.0) pairs, ap (λ (p : Token × List ℕ). p.1) pairs)
     by_kind t behind h none same false e =
         let some = letters_some (token_text t) behind (wordy t h e) in
         let there : letters text ≡ letters (token_text t ++ behind) = ap letters same in
-        absurd (omega (arith, some, there, count, zero_letters))
+        absurd (omega (arith, some, there, zero_letters))
+
+-- ---- the first token
+
+pub first_sign : (text : List ℕ) (n : ℕ) → n ≡ letters text → n ≡ 0 → first_token text ≡ sign_at text
+unfolding first_token
+first_sign text n is none =
+    let zero_letters : letters text ≡ 0 = sym is ∙ none in
+    ap (λ k. cond (k == 0) (sign_at text) (word_token (take (letters text) text), drop (letters text) text)) zero_letters
+
+pub first_word : (text : List ℕ) (n : ℕ) → n ≡ letters text → (n ≡ 0 → ⊥) → first_token text ≡ (word_token (take n text), drop n text)
+unfolding first_token
+first_word text n is some =
+    let word : ℕ → Token × List ℕ = λ k. (word_token (take k text), drop k text) in
+    ap (λ k. cond (k == 0) (sign_at text) (word k)) (sym is) ∙ ap (λ t. cond t (sign_at text) (word n)) (unequal n 0 some)
+
+pub cuts_first : (text : List ℕ) → Cuts text (first_token text).0 (first_token text).1
+unfolding first_token
+cuts_first text = by_test (letters text == 0) refl
+  where
+    word : Token × List ℕ
+    word = (word_token (take (letters text) text), drop (letters text) text)
+
+    by_test : (b : Bool) → (letters text == 0) ≡ b → Cuts text (cond b (sign_at text) word).0 (cond b (sign_at text) word).1
+    by_test true e = cut_sign text (equal (letters text) 0 e)
+    by_test false e = cut_word text (word_token (take (letters text) text)) (not_zero (letters text) e) (is_named (take (letters text) text))
+
+sign_shorter : (b : ℕ) (bs : List ℕ) → length (sign_at (b ∷ bs)).1 ≤ length bs
+sign_shorter b [] = omega arith
+sign_shorter b (next ∷ bytes) = by_test (doubles b && next == 61)
+  where
+    by_test : (t : Bool) → length (cond {A = Token × List ℕ} t (before_equals b, bytes) (single b, next ∷ bytes)).1 ≤ length (next ∷ bytes)
+    by_test true = omega arith
+    by_test false = omega arith
+
+-- it takes a byte at least
+first_shorter : (b : ℕ) (bs : List ℕ) → length (first_token (b ∷ bs)).1 ≤ length bs
+unfolding first_token
+first_shorter b bs = by_test (letters (b ∷ bs) == 0) refl
+  where
+    word : Token × List ℕ
+    word = (word_token (take (letters (b ∷ bs)) (b ∷ bs)), drop (letters (b ∷ bs)) (b ∷ bs))
+
+    by_test : (t : Bool) → (letters (b ∷ bs) == 0) ≡ t → length (cond t (sign_at (b ∷ bs)) word).1 ≤ length bs
+    by_test true e = sign_shorter b bs
+    by_test false e = omega (arith, length-drop (letters (b ∷ bs)) (b ∷ bs), not_zero (letters (b ∷ bs)) e)
 
 -- ---- all tokens
 
@@ -447,7 +591,7 @@ no_space_in_word (b ∷ bs) behind h = other b (both (is_of_word b) (all_of_word
     other : (c : ℕ) → is_of_word c ≡ true → (c == 32) ≡ false
     other c e = grind (arith, nat_tests)
 
-pub no_space : (t : Token) (behind : List ℕ) → IsToken t → begins (λ b. b == 32) (token_text t ++ behind) ≡ false
+no_space : (t : Token) (behind : List ℕ) → IsToken t → begins (λ b. b == 32) (token_text t ++ behind) ≡ false
 no_space t behind h = by_kind (is_sign t) refl
   where
     by_kind : (b : Bool) → is_sign t ≡ b → begins (λ b. b == 32) (token_text t ++ behind) ≡ false
@@ -455,7 +599,7 @@ no_space t behind h = by_kind (is_sign t) refl
     by_kind false e = no_space_in_word (token_text t) behind (wordy t h e)
 
 -- the first token of a text that does not begin with a space
-pub record HasFirst (text : List ℕ) (all : List Token) : Type 0 where
+record HasFirst (text : List ℕ) (all : List Token) : Type 0 where
   pub t : Token
   pub behind : List ℕ
   pub more : List Token
@@ -466,11 +610,11 @@ pub record HasFirst (text : List ℕ) (all : List Token) : Type 0 where
   pub rest : Spells behind more
 
 -- what a text is that has tokens
-abbrev pub Opened : List ℕ → List Token → Type 0
+abbrev Opened : List ℕ → List Token → Type 0
 Opened [] all = all ≡ []
 Opened (b ∷ bs) all = ((b == 32) ≡ true × Spells bs all) ⊎ ((b == 32) ≡ false × HasFirst (b ∷ bs) all)
 
-pub some_text : (t : Token) → IsToken t → 0 < length (token_text t)
+some_text : (t : Token) → IsToken t → 0 < length (token_text t)
 some_text t h = by_kind (is_sign t) refl
   where
     by_kind : (b : Bool) → is_sign t ≡ b → 0 < length (token_text t)
@@ -482,7 +626,7 @@ open_first [] all h some = absurd (omega (arith, some))
 open_first (b ∷ bs) all h some =
     inr (ap (begins (λ c. c == 32)) h.text_is ∙ no_space h.t h.behind h.known, h)
 
-pub invert : {text : List ℕ} {all : List Token} → Spells text all → Opened text all
+invert : {text : List ℕ} {all : List Token} → Spells text all → Opened text all
 invert done = refl
 invert (space s) = inl (refl, s)
 invert (one {text} {tokens} t known apart s) =
@@ -490,50 +634,98 @@ invert (one {text} {tokens} t known apart s) =
     (record { t = t; behind = text; more = tokens; known = known; apart = apart; text_is = refl; all_is = refl; rest = s })
     (omega (arith, some_text t known, length-append (token_text t) text))
 
-pub begins_none : (text : List ℕ) → BeginsWith text [] text
-begins_none text = record { sound = λ h more s. s; only = λ all s. (all, refl, s) }
-
-pub begins_space : (text : List ℕ) (tokens : List Token) (b : ℕ) (rest : List ℕ) → b ≡ 32 → BeginsWith text tokens (b ∷ rest) → BeginsWith text tokens rest
-begins_space text tokens b rest is so_far = record {
-  sound = λ h more s. so_far.sound h more (subst (λ c. Spells (c ∷ rest) more) (sym is) (space s));
-  only = λ all s. let left = so_far.only all s in (left.0, left.1, behind left.0 (invert left.2));
+-- behind a space stand the tokens of the whole
+has_spaced : (b : ℕ) (bs : List ℕ) (tokens : List Token) → b ≡ 32 → HasTokens bs tokens → HasTokens (b ∷ bs) tokens
+has_spaced b bs tokens is has = record {
+  sound = λ h. subst (λ c. Spells (c ∷ bs) tokens) (sym is) (space (has.sound h));
+  only = λ all s. has.only all (behind all (invert s));
 }
   where
-    behind : (more : List Token) → Opened (b ∷ rest) more → Spells rest more
-    behind more opened = ⊎_elim (λ spaced. spaced.1) (λ first. let no : true ≡ false = sym (ap (λ c. c == 32) is) ∙ first.0 in cc) opened
+    behind : (all : List Token) → Opened (b ∷ bs) all → Spells bs all
+    behind all opened = ⊎_elim (λ spaced. spaced.1) (λ first. let no : true ≡ false = sym (ap (λ c. c == 32) is) ∙ first.0 in cc) opened
 
-all_last : (tokens : List Token) (t : Token) → AllByRecursion IsKnown (tokens ++ t ∷ []) → AllByRecursion IsKnown tokens × IsKnown t
-all_last [] t h = (tt, h.0)
-all_last (u ∷ us) t h = let rest = all_last us t h.1 in ((h.0, rest.0), rest.1)
-
-pub begins_token : (text : List ℕ) (tokens : List Token) (b : ℕ) (bs : List ℕ) (t : Token) (rest : List ℕ) → (b ≡ 32 → ⊥) → Cuts (b ∷ bs) t rest → BeginsWith text tokens (b ∷ bs) → BeginsWith text (tokens ++ t ∷ []) rest
-begins_token text tokens b bs t rest no_space_there cut so_far = record {
-  sound = λ h more s.
-      let known = all_last tokens t h in
-      let fits = cut.sound known.1 in
-      let spelled : Spells (b ∷ bs) (t ∷ more) = subst (λ w. Spells w (t ∷ more)) (sym fits.1) (one t fits.0 fits.2 s) in
-      subst (Spells text) (sym (append_assoc tokens (t ∷ []) more)) (so_far.sound known.0 (t ∷ more) spelled);
-  only = λ all s. let left = so_far.only all s in behind all left.0 left.1 (invert left.2);
+-- behind a first token stand the others
+has_first : (b : ℕ) (bs : List ℕ) (t : Token) (rest : List ℕ) (tokens : List Token) → (b == 32) ≡ false → Cuts (b ∷ bs) t rest → HasTokens rest tokens → HasTokens (b ∷ bs) (t ∷ tokens)
+has_first b bs t rest tokens no_space_there cut has = record {
+  sound = λ h.
+      let fits = cut.sound h.0 in
+      subst (λ w. Spells w (t ∷ tokens)) (sym fits.1) (one t fits.0 fits.2 (has.sound h.1));
+  only = λ all s. by_first all (invert s);
 }
   where
-    behind : (all more : List Token) → all ≡ tokens ++ more → Opened (b ∷ bs) more → (others : List Token) × (all ≡ (tokens ++ t ∷ []) ++ others) × Spells rest others
-    behind all more is opened = ⊎_elim
-        (λ spaced. absurd (no_space_there (equal b 32 spaced.0)))
+    by_first : (all : List Token) → Opened (b ∷ bs) all → all ≡ t ∷ tokens
+    by_first all opened = ⊎_elim
+        (λ spaced. let no : true ≡ false = sym spaced.0 ∙ no_space_there in cc)
         (λ found.
         let first = found.1 in
-        let same = cut.only first.t first.behind first.known first.apart first.text_is in (
-          first.more,
-          is ∙ ap (λ m. tokens ++ m) (first.all_is ∙ ap (λ u. u ∷ first.more) (sym same.0)) ∙ sym (append_assoc tokens (t ∷ []) first.more),
-          subst (λ w. Spells w first.more) (sym same.1) first.rest,
-        ))
+        let same = cut.only first.t first.behind first.known first.apart first.text_is in
+        let others = has.only first.more (subst (λ w. Spells w first.more) (sym same.1) first.rest) in
+        first.all_is ∙ ap (λ u. u ∷ first.more) (sym same.0) ∙ ap (λ us. t ∷ us) others)
         opened
 
-none_left : (more : List Token) → Spells [] more → more ≡ []
-none_left more s = invert s
+has_none : HasTokens [] []
+has_none = record { sound = λ h. done; only = λ all s. invert s }
 
-pub begins_end : (text : List ℕ) (tokens : List Token) (rest : List ℕ) → length rest ≡ 0 → BeginsWith text tokens rest → HasTokens text tokens
-begins_end text tokens (b ∷ bs) none so_far = absurd (omega (arith, none))
-begins_end text tokens [] none so_far = record {
-  sound = λ h. subst (Spells text) (append-nil tokens) (so_far.sound h [] done);
-  only = λ all s. let left = so_far.only all s in left.1 ∙ ap (λ m. tokens ++ m) (none_left left.0 left.2) ∙ append-nil tokens;
-}
+has_within : (most : ℕ) (text : List ℕ) → length text ≤ most → HasTokens text (tokens_within most text)
+unfolding tokens_within
+has_within zero [] few = has_none
+has_within zero (b ∷ bs) few = absurd (omega (arith, few))
+has_within (suc most) [] few = has_none
+has_within (suc most) (b ∷ bs) few =
+    by_test (has_within most bs (omega (arith, few))) (has_within most (first_token (b ∷ bs)).1 (omega (arith, few, first_shorter b bs))) (b == 32) refl
+  where
+    by_test : HasTokens bs (tokens_within most bs) → HasTokens (first_token (b ∷ bs)).1 (tokens_within most (first_token (b ∷ bs)).1) → (t : Bool) → (b == 32) ≡ t
+        → HasTokens (b ∷ bs) (cond t (tokens_within most bs) ((first_token (b ∷ bs)).0 ∷ tokens_within most (first_token (b ∷ bs)).1))
+    by_test spaced others true e = has_spaced b bs (tokens_within most bs) (equal b 32 e) spaced
+    by_test spaced others false e =
+        has_first b bs (first_token (b ∷ bs)).0 (first_token (b ∷ bs)).1 (tokens_within most (first_token (b ∷ bs)).1) e (cuts_first (b ∷ bs)) others
+
+pub has_tokens : (text : List ℕ) → HasTokens text (tokens_of text)
+unfolding tokens_of
+has_tokens text = has_within (length text) text (omega arith)
+
+-- ---- one token after another
+
+-- no more are wanted than there are bytes
+enough : (n m : ℕ) (text : List ℕ) → length text ≤ n → length text ≤ m → tokens_within n text ≡ tokens_within m text
+unfolding tokens_within
+enough zero zero text few less = refl
+enough zero (suc m) [] few less = refl
+enough (suc n) zero [] few less = refl
+enough (suc n) (suc m) [] few less = refl
+enough zero (suc m) (b ∷ bs) few less = absurd (omega (arith, few))
+enough (suc n) zero (b ∷ bs) few less = absurd (omega (arith, less))
+enough (suc n) (suc m) (b ∷ bs) few less =
+    let first = first_token (b ∷ bs) in
+    let spaced = enough n m bs (omega (arith, few)) (omega (arith, less)) in
+    let others = enough n m first.1 (omega (arith, few, first_shorter b bs)) (omega (arith, less, first_shorter b bs)) in
+    ap (λ ts. cond (b == 32) ts (first.0 ∷ tokens_within n first.1)) spaced
+    ∙ ap (λ ts. cond (b == 32) (tokens_within m bs) (first.0 ∷ ts)) others
+
+pub tokens_end : (tokens : List Token) (rest : List ℕ) → length rest ≡ 0 → tokens ++ tokens_of rest ≡ tokens
+unfolding tokens_of tokens_within
+tokens_end tokens [] none = append-nil tokens
+tokens_end tokens (b ∷ bs) none = absurd (omega (arith, none))
+
+pub tokens_spaced : (rest : List ℕ) (b : ℕ) (bs : List ℕ) → rest ≡ b ∷ bs → b ≡ 32 → tokens_of rest ≡ tokens_of bs
+unfolding tokens_of tokens_within
+tokens_spaced rest b bs there is =
+    ap tokens_of there ∙ ap (λ c. cond (c == 32) (tokens_within (length bs) bs) ((first_token (b ∷ bs)).0 ∷ tokens_within (length bs) (first_token (b ∷ bs)).1)) is
+
+tokens_first : (b : ℕ) (bs : List ℕ) → (b ≡ 32 → ⊥) → tokens_of (b ∷ bs) ≡ (first_token (b ∷ bs)).0 ∷ tokens_of (first_token (b ∷ bs)).1
+unfolding tokens_of tokens_within
+tokens_first b bs no_space_there =
+    let first = first_token (b ∷ bs) in
+    ap (λ t. cond t (tokens_within (length bs) bs) (first.0 ∷ tokens_within (length bs) first.1)) (unequal b 32 no_space_there)
+    ∙ ap (λ ts. first.0 ∷ ts) (enough (length bs) (length first.1) first.1 (first_shorter b bs) (omega arith))
+
+pub tokens_more : (items : List Token) (count : ℕ) (rest : List ℕ) (b : ℕ) (bs : List ℕ) (t : Token) (after : List ℕ) → rest ≡ b ∷ bs → (b ≡ 32 → ⊥) → (t, after) ≡ first_token rest → count < length items
+    → take count items ++ tokens_of rest ≡ take (count + 1) (set items count t) ++ tokens_of after
+tokens_more items count rest b bs t after there no_space_there cut room =
+    let first = first_token (b ∷ bs) in
+    let same : first ≡ (t, after) = sym (cut ∙ ap first_token there) in
+    let others : tokens_of rest ≡ t ∷ tokens_of after =
+    ap tokens_of there ∙ tokens_first b bs no_space_there ∙ ap (λ (p : Token × List ℕ). p.0 ∷ tokens_of p.1) same in
+    ap (λ ts. take count items ++ ts) others
+    ∙ sym (append_assoc (take count items) (t ∷ []) (tokens_of after))
+    ∙ ap (λ ts. ts ++ tokens_of after) (sym (take_more_set items count t room))

@@ -4,14 +4,14 @@ use Rattle.std.specs.List.{AllByRecursion, count_by, sum_by}
 use Rattle.std.proofs.lemmas.List.Sums.{sum_by-append}
 use Rattle.pc_rank.specs.Expressions.{Tree, Condition}
 use Rattle.pc_rank.specs.Grammar.{IsExpression, IsSum, IsChain, IsTerm, IsTest, IsJoined, plain, choice, single, chain, two, last, more, number, given, no_rank, group, call, compare, join, negate, last_test, more_tests}
-use Rattle.pc_rank.specs.Inner.Cutting.{IsKnown}
 use Rattle.pc_rank.specs.Reading.{nodes, test_nodes}
 use Rattle.pc_rank.specs.Tokens.{is_node}
-use Rattle.pc_rank.proofs.Complete.{no_chain, no_expression, no_test, no_tests}
 use Rattle.pc_rank.specs.declared.operators.Joiner.{Joiner}
 use Rattle.pc_rank.specs.declared.operators.Operator.{Operator}
 use Rattle.pc_rank.specs.declared.token.Token.{Token}
 use Rattle.pc_rank.specs.declared.token.Token.TheVariants as token
+use Rattle.pc_rank.proofs.Complete.{no_chain, no_expression, no_test, no_tests}
+use Rattle.pc_rank.proofs.Cuts.{IsKnown}
 
 -- so many nodes, of known tokens
 pub record Makes (s : List Token) (n : ℕ) : Type 0 where

@@ -1,13 +1,12 @@
 -- The codes of an expression are the first of its fields.
-use Rattle.std.specs.Prelude.{◌≡◌, ℕ, ◌-◌, ◌≤◌, List, [], ◌++◌, length, replicate, take, Option, Some, None}
+use Rattle.std.specs.Prelude.{◌≡◌, ◌-◌, ◌≤◌, List, ◌++◌, length, replicate, take}
 use Rattle.std.proofs.Common.{ap, sym, subst, ◌∙◌, arith}
 use Rattle.std.proofs.Math.Seq.{take-append_seam}
 use Rattle.pc_rank.specs.Expressions.{Tree}
 use Rattle.pc_rank.specs.Fields.{IsLaid, tree_in}
-use Rattle.pc_rank.specs.Inner.Laying.{Adds}
 use Rattle.pc_rank.specs.Laid.{built_again}
 use Rattle.pc_rank.specs.Layout.{layout, built_of}
-use Rattle.pc_rank.specs.Reading.{IsReadable, nodes}
+use Rattle.pc_rank.specs.Reading.{IsReadable}
 use Rattle.pc_rank.specs.declared.code.Code.{Code}
 use Rattle.pc_rank.specs.declared.code.Code.TheVariants as code
 use Rattle.pc_rank.specs.declared.expression.Expression.TheInside.{Inside}
@@ -15,13 +14,6 @@ use Rattle.pc_rank.proofs.Sizes.{length_layout}
 
 pub laid_count : (fields : Inside) → IsLaid fields → fields.count ≤ 64
 laid_count fields laid = omega (arith, laid.count, length_layout (tree_in fields), laid.readable.few)
-
--- what has few nodes has room
-pub laid_row : (start row : List Code) (a : Tree) (done : Option (Unit {0})) → start ≡ [] → nodes a ≤ 64
-    → Adds start (layout a) done row → row ≡ layout a
-laid_row start row a None none few adds =
-    absurd (omega (arith, adds, ap length none, length_layout a, few))
-laid_row start row a (Some done) none few adds = adds ∙ ap (λ l. l ++ layout a) none
 
 -- the fields that hold the codes of an expression are of it
 pub is_tree : (fields : Inside) (row : List Code) (a : Tree)

@@ -1,13 +1,12 @@
 pub mod Numerals
+pub mod Cuts
 pub mod Cutting
 pub mod Sound
 pub mod Complete
 pub mod Derived
 pub mod Texts
-pub mod Unique
 pub mod Canonical
 pub mod Spelling
-pub mod Nodes
 pub mod Stacks
 pub mod Weights
 pub mod Before

@@ -1,5 +1,5 @@
 -- What is written of an expression: words with one space between each two, and no `t` at the end.
-use Rattle.std.proofs.Common.{ℕ, ◌≡◌, ◌<◌, ◌≤◌, ◌^◌, ◌++◌, ◌∙◌, eqb, ltb, not, ◌&&◌, Bool, true, false, List, [], ◌∷◌, length, codes, decimal, refl, sym, ap, subst, arith, append_assoc}
+use Rattle.std.proofs.Common.{ℕ, ◌≡◌, ◌<◌, ◌++◌, ◌∙◌, eqb, ltb, not, ◌&&◌, Bool, true, false, List, [], ◌∷◌, length, codes, decimal, refl, sym, ap, subst, arith, append_assoc}
 use Rattle.std.specs.Str.Parse.{AllDigits}
 use Rattle.std.proofs.lemmas.Bool.{lt-ltb, ne_eqb}
 use Rattle.std.proofs.lemmas.Fmt.{decimal_nonempty, digits_decimal}

@@ -1,11 +1,10 @@
 -- What is read is derived by the grammar.
 use Rattle.std.proofs.Common.{◌≡◌, ℕ, zero, suc, Bool, true, false, not, cond, List, [], ◌∷◌, ◌++◌, drop, Option, Some, None, Result, Ok, Err, refl, sym, ap, subst, ◌∙◌, append_assoc}
 use Rattle.std.proofs.lemmas.List.{append-nil}
-use Rattle.pc_rank.specs.Expressions.{Tree, Condition}
+use Rattle.pc_rank.specs.Expressions.{Tree, Condition, Found, Rank, Test}
 use Rattle.pc_rank.specs.Expressions as tree
 use Rattle.pc_rank.specs.Grammar.{IsExpression, IsSum, IsChain, IsTerm, IsTest, IsJoined, plain, choice, single, chain, two, last, more, number, given, no_rank, group, call, compare, join, negate, last_test, more_tests}
-use Rattle.pc_rank.specs.Nodes.{Found, Rank, Test}
-use Rattle.pc_rank.specs.Inner.Reading.{◌>>=◌, Readers, halt, lead_of, next_lead, operator_of, next_operator, joiner_of, next_joiner, comparison_of, next_comparison, is_wanted, behind, meets, mixes, as_rank, rank_in, as_test, test_in, choice_in, call_in, group_in, term_of, term_in, ended, ended_of, chain_in, two_in, infix_in, after_of, after_in, sum_in, compared_of, compared_in, grouped_in, more_in, joined_of, joined_in, opened_of, opened_in, either_of, either_in, expression_of, expression_in, tested_of, tested_in, tests_in, part_in, part_at, whole, whole_of}
+use Rattle.pc_rank.specs.Inner.Reading.{◌>>=◌, Readers, halt, lead_of, next_lead, operator_of, next_operator, joiner_of, next_joiner, comparison_of, next_comparison, is_wanted, behind, meets, mixes, as_rank, rank_in, as_test, test_in, choice_in, call_in, group_in, term_of, term_in, ended, ended_of, chain_in, two_in, infix_in, after_of, after_in, sum_in, compared_of, compared_in, grouped_in, more_in, joined_of, joined_in, opened_of, opened_in, either_of, either_in, expression_led, expression_in, tested_of, tested_in, tests_in, part_in, part_at, whole, whole_of}
 use Rattle.pc_rank.specs.Texts.{is_joiner, is_operator, may_chain}
 use Rattle.pc_rank.specs.declared.fault.Wanted.{Wanted}
 use Rattle.pc_rank.specs.declared.fault.Wanted.TheVariants as wanted
@@ -522,7 +521,7 @@ module _ (n : ℕ) (L : Readers) (sound : Sound n L) where
       by_sum : sum_in L None tokens ≡ Ok (a, rest) → Reads (λ s. IsExpression (suc n) s a) tokens rest
       by_sum same = let one = sum_sound None tokens a rest same in record { front = one.front; is = one.is; holds = plain one.holds }
 
-      by_lead : (l : Lead) → Leads l tokens → expression_of L tokens l ≡ Ok (a, rest) → Reads (λ s. IsExpression (suc n) s a) tokens rest
+      by_lead : (l : Lead) → Leads l tokens → expression_led L tokens l ≡ Ok (a, rest) → Reads (λ s. IsExpression (suc n) s a) tokens rest
       by_lead lead.Choice is same =
           let one = choice_sound (drop 1 tokens) a rest same in
           record { front = token.If ∷ one.front; is = is ∙ ap (λ ts. token.If ∷ ts) one.is; holds = one.holds }

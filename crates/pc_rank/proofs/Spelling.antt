@@ -15,7 +15,7 @@ use Rattle.pc_rank.specs.declared.operators.Joiner.{Joiner}
 use Rattle.pc_rank.specs.declared.operators.Operator.{Operator}
 use Rattle.pc_rank.specs.declared.token.Token.{Token}
 use Rattle.pc_rank.specs.declared.token.Token.TheVariants as token
-use Rattle.pc_rank.proofs.Canonical.{in_group, tokens_of, tokens_of_test, written_is_derived}
+use Rattle.pc_rank.proofs.Canonical.{in_group, tree_tokens, test_tokens, written_is_derived}
 use Rattle.pc_rank.proofs.Complete.{no_chain, no_expression, no_test, no_tests}
 
 -- ---- small numbers
@@ -204,11 +204,11 @@ choice_writes test text other qs ts us q w v rest others apart s =
 negate_writes : (text : List ℕ) (ts : List Token) → Writes text ts → Writes (codes "not " ++ text) (token.Not ∷ ts)
 negate_writes text ts w rest others apart s = one token.Not tt refl (space (w rest others apart s))
 
-regrouped : (p q : Condition) (j : Joiner) (us : List Token) → (in_group true (tokens_of_test p) ++ token.Join j ∷ in_group (not (is_joined_on j q)) (tokens_of_test q)) ++ us ≡ tokens_of_test (tree.Join j p q) ++ us
-regrouped p q j us = ap (λ ts. token.Open ∷ ts ++ us) (append_assoc (tokens_of_test p) (token.Close ∷ []) (token.Join j ∷ in_group (not (is_joined_on j q)) (tokens_of_test q)))
+regrouped : (p q : Condition) (j : Joiner) (us : List Token) → (in_group true (test_tokens p) ++ token.Join j ∷ in_group (not (is_joined_on j q)) (test_tokens q)) ++ us ≡ test_tokens (tree.Join j p q) ++ us
+regrouped p q j us = ap (λ ts. token.Open ∷ ts ++ us) (append_assoc (test_tokens p) (token.Close ∷ []) (token.Join j ∷ in_group (not (is_joined_on j q)) (test_tokens q)))
 
 mutual
-  tree_writes : (a : Tree) → Small a → Writes (text_of a) (tokens_of a)
+  tree_writes : (a : Tree) → Small a → Writes (text_of a) (tree_tokens a)
   tree_writes (tree.Number k) small rest us apart s = one (token.Number k) small (apart_word rest apart) s
   tree_writes (tree.Given f) small rest us apart s = one (token.Given f) tt (apart_word rest apart) s
   tree_writes tree.NoRank small rest us apart s = one token.NoRank tt (apart_word rest apart) s
@@ -217,22 +217,22 @@ mutual
   tree_writes (tree.Call x a b) small rest us apart s = call_writes x _ _ _ _ (tree_writes a small.0) (tree_writes b small.1) rest us apart s
   tree_writes (tree.Choice q a b) small rest us apart s = choice_writes _ _ _ _ _ _ (test_writes q small.0) (tree_writes a small.1) (tree_writes b small.2) rest us apart s
 
-  test_writes : (q : Condition) → SmallTest q → Writes (test_text q) (tokens_of_test q)
+  test_writes : (q : Condition) → SmallTest q → Writes (test_text q) (test_tokens q)
   test_writes (tree.Compare c a b) small rest us apart s =
       compare_writes c _ _ _ _ (group_writes _ _ (is_choice a) (tree_writes a small.0)) (group_writes _ _ (is_choice b) (tree_writes b small.1)) rest us apart s
   test_writes (tree.Join j p q) small rest us apart s =
       subst (Spells (test_text (tree.Join j p q) ++ rest)) (regrouped p q j us)
-      (join_writes j (grouped true (test_text p)) _ (in_group true (tokens_of_test p)) _ (group_writes (test_text p) (tokens_of_test p) true (test_writes p small.0)) (group_writes _ _ (not (is_joined_on j q)) (test_writes q small.1)) rest us apart s)
-  test_writes (tree.Negate p) small rest us apart s = negate_writes (grouped true (test_text p)) (in_group true (tokens_of_test p)) (group_writes (test_text p) (tokens_of_test p) true (test_writes p small)) rest us apart s
+      (join_writes j (grouped true (test_text p)) _ (in_group true (test_tokens p)) _ (group_writes (test_text p) (test_tokens p) true (test_writes p small.0)) (group_writes _ _ (not (is_joined_on j q)) (test_writes q small.1)) rest us apart s)
+  test_writes (tree.Negate p) small rest us apart s = negate_writes (grouped true (test_text p)) (in_group true (test_tokens p)) (group_writes (test_text p) (test_tokens p) true (test_writes p small)) rest us apart s
 
 pub text_is_small : (text : List ℕ) (a : Tree) → IsText text a → Small a
 text_is_small text a h = (all_small 16).expressions h.tokens a h.derived (tokens_spelled h.spelled)
 
-pub small_is_read : (a : Tree) → Small a → IsExpression 16 (tokens_of a) a → IsText (text_of a) a
+pub small_is_read : (a : Tree) → Small a → IsExpression 16 (tree_tokens a) a → IsText (text_of a) a
 small_is_read a small derived =
     record {
-      tokens = tokens_of a;
-      spelled = subst (λ w. Spells w (tokens_of a)) (append-nil (text_of a)) (subst (Spells (text_of a ++ [])) (append-nil (tokens_of a)) (tree_writes a small [] [] refl done));
+      tokens = tree_tokens a;
+      spelled = subst (λ w. Spells w (tree_tokens a)) (append-nil (text_of a)) (subst (Spells (text_of a ++ [])) (append-nil (tree_tokens a)) (tree_writes a small [] [] refl done));
       derived = derived;
     }
 

@@ -1,92 +1,142 @@
--- What is pushed lies on top of what was there.
-use Rattle.std.proofs.Common.{◌≡◌, ◌+◌, ℕ, zero, suc, ◌<◌, ◌≤◌, List, ◌∷◌, length, get_or, refl, sym, ap, subst, ◌∙◌, add-one, arith}
-use Rattle.std.proofs.lemmas.List.{get_or-set_same, get_or-set_other}
-use Rattle.std.specs.Prelude.{slice_set}
-use Rattle.pc_rank.specs.Inner.Made.{stack}
-use Rattle.pc_rank.specs.Inner.Stacks.{AreBelow, pop, stacked, top}
-use Rattle.pc_rank.specs.Nodes.{Found, among, found_in, made, nothing}
-use Rattle.pc_rank.specs.declared.making.Making.{Making}
-use Rattle.pc_rank.specs.declared.node.Node.{Node}
-use Rattle.pc_rank.proofs.Nodes.{among_more, among_none, among_put, among_set}
+-- Codes that build a stack are those of what lies there.
+use Rattle.std.proofs.Common.{◌≡◌, List, [], ◌∷◌, ◌++◌, Ok, refl, ap, sym, subst, ◌∙◌, append_assoc}
+use Rattle.pc_rank.specs.Expressions.{Tree, Condition, Found, Rank, Test}
+use Rattle.pc_rank.specs.Expressions as tree
+use Rattle.pc_rank.specs.Inner.Limits.{IsMadeOf}
+use Rattle.pc_rank.specs.Inner.Reading.{whole}
+use Rattle.pc_rank.specs.Inner.Stacks.{Finds, HasRank, HasTest, Makes, found_layout, layouts, made_by, pop, top, tree_of, under_by}
+use Rattle.pc_rank.specs.Laid.{builds_it, builds_test}
+use Rattle.pc_rank.specs.Layout.{alone, built_of, builds, layout}
+use Rattle.pc_rank.specs.declared.code.Code.{Code}
+use Rattle.pc_rank.specs.declared.code.Code.TheVariants as code
+use Rattle.pc_rank.specs.declared.operators.Joiner.{Joiner}
+use Rattle.pc_rank.specs.declared.token.Token.{Token}
 
--- what a stack with something on it has on top, and under it
-top_of : (height : ℕ) (places : List ℕ) (at : ℕ → Found) → top (stacked (suc height) places at) ≡ at (get_or places height 0)
-unfolding top stacked
-top_of height places at = refl
+builds_found : (x : Found) (rest : List Code) (built : List Found) → builds (found_layout x ++ rest) built ≡ builds rest (x ∷ built)
+builds_found (Rank a) rest built = builds_it a rest built
+builds_found (Test q) rest built = builds_test q rest built
 
-under_of : (height : ℕ) (places : List ℕ) (at : ℕ → Found) → pop (stacked (suc height) places at) ≡ stacked height places at
-unfolding pop stacked
-under_of height places at = refl
+-- behind the codes of what lies on a stack, that stack was built
+builds_all : (xs : List Found) (rest : List Code) → builds (layouts xs ++ rest) [] ≡ builds rest xs
+builds_all [] rest = refl
+builds_all (x ∷ xs) rest =
+    ap (λ l. builds l []) (append_assoc (layouts xs) (found_layout x) rest)
+    ∙ builds_all xs (found_layout x ++ rest) ∙ builds_found x rest xs
 
-top_of_none : (places : List ℕ) (at : ℕ → Found) → top (stacked zero places at) ≡ nothing
-unfolding top stacked
-top_of_none places at = refl
+-- ---- what a code puts on a stack
 
-under_none : (places : List ℕ) (at : ℕ → Found) → pop (stacked zero places at) ≡ stacked zero places at
-unfolding pop stacked
-under_none places at = refl
+-- what it is made of gives way to what it makes
+record Puts (c : Code) (s : List Found) : Type 0 where
+  is : builds (c ∷ []) s ≡ made_by c s ∷ under_by c s
+  fits : layouts (builds (c ∷ []) s) ≡ layouts s ++ c ∷ []
 
--- stacks of the same things are the same
-same_stack : (height : ℕ) (xs ys : List ℕ) (f g : ℕ → Found) → ((k : ℕ) → k < height → f (get_or xs k 0) ≡ g (get_or ys k 0)) → stacked height xs f ≡ stacked height ys g
-unfolding stacked
-same_stack zero xs ys f g h = refl
-same_stack (suc height) xs ys f g h =
-    ap (λ x. x ∷ stacked height xs f) (h height (omega arith)) ∙ ap (λ rest. g (get_or ys height 0) ∷ rest) (same_stack height xs ys f g (λ k small. h k (omega (arith, small))))
+-- a code of two expressions
+of_two : (c : Code) (make : Tree → Tree → Found) → ((a b : Tree) (s : List Found) → builds (c ∷ []) (Rank b ∷ Rank a ∷ s) ≡ make a b ∷ s)
+    → ((a b : Tree) → found_layout (make a b) ≡ layout a ++ layout b ++ c ∷ [])
+    → (s : List Found) → HasRank s × HasRank (pop s) → (builds (c ∷ []) s ≡ make (tree_of (top (pop s))) (tree_of (top s)) ∷ pop (pop s)) × (layouts (builds (c ∷ []) s) ≡ layouts s ++ c ∷ [])
+unfolding HasRank top pop
+of_two c make builds_so lies_so [] kinds = absurd kinds.0
+of_two c make builds_so lies_so (Test q ∷ s) kinds = absurd kinds.0
+of_two c make builds_so lies_so (Rank b ∷ []) kinds = absurd kinds.1
+of_two c make builds_so lies_so (Rank b ∷ Test q ∷ s) kinds = absurd kinds.1
+of_two c make builds_so lies_so (Rank b ∷ Rank a ∷ s) kinds = (
+  builds_so a b s,
+  ap layouts (builds_so a b s) ∙ ap (λ l. layouts s ++ l) (lies_so a b) ∙ simp append_assoc,
+)
 
-module _ (nodes : List Node) (count : ℕ) (places : List ℕ) (height : ℕ) where
-  -- taken from the top
-  pub popped : (h : ℕ) → suc h ≡ height → (among count nodes (get_or places h 0) ≡ top (stacked height places (among count nodes))) × (stacked h places (among count nodes) ≡ pop (stacked height places (among count nodes)))
-  popped h e = (
-    subst (λ n. among count nodes (get_or places h 0) ≡ top (stacked n places (among count nodes))) e (sym (top_of h places (among count nodes))),
-    subst (λ n. stacked h places (among count nodes) ≡ pop (stacked n places (among count nodes))) e (sym (under_of h places (among count nodes))),
-  )
+of_choice : (s : List Found) → HasRank s × HasRank (pop s) × HasTest (pop (pop s)) → Puts code.Choice s
+unfolding HasRank HasTest top pop
+of_choice [] kinds = absurd kinds.0
+of_choice (Test q ∷ s) kinds = absurd kinds.0
+of_choice (Rank b ∷ []) kinds = absurd kinds.1
+of_choice (Rank b ∷ Test q ∷ s) kinds = absurd kinds.1
+of_choice (Rank b ∷ Rank a ∷ []) kinds = absurd kinds.2
+of_choice (Rank b ∷ Rank a ∷ Rank q ∷ s) kinds = absurd kinds.2
+of_choice (Rank b ∷ Rank a ∷ Test q ∷ s) kinds = record { is = refl; fits = simp append_assoc }
 
-  -- nothing is there to take
-  pub none_popped : height ≡ 0 → count ≤ 64 → (among count nodes 64 ≡ top (stacked height places (among count nodes))) × (stacked height places (among count nodes) ≡ pop (stacked height places (among count nodes)))
-  none_popped e few = (
-    among_none count 64 nodes few ∙ sym (ap (λ n. top (stacked n places (among count nodes))) e ∙ top_of_none places (among count nodes)),
-    subst (λ n. stacked n places (among count nodes) ≡ pop (stacked n places (among count nodes))) (sym e) (sym (under_none places (among count nodes))),
-  )
+of_tests : (j : Joiner) (s : List Found) → HasTest s × HasTest (pop s) → Puts (code.Join j) s
+unfolding HasTest top pop
+of_tests j [] kinds = absurd kinds.0
+of_tests j (Rank a ∷ s) kinds = absurd kinds.0
+of_tests j (Test q ∷ []) kinds = absurd kinds.1
+of_tests j (Test q ∷ Rank a ∷ s) kinds = absurd kinds.1
+of_tests j (Test q ∷ Test p ∷ s) kinds = record { is = refl; fits = simp append_assoc }
 
-  -- a node is put at the end of the nodes, and its place on the stack
-  abbrev Pushed : Node → List Found
-  Pushed n = stacked (height + 1) (slice_set places height count) (among (count + 1) (slice_set nodes count n))
+of_test : (s : List Found) → HasTest s → Puts code.Negate s
+unfolding HasTest top pop
+of_test [] kind = absurd kind
+of_test (Rank a ∷ s) kind = absurd kind
+of_test (Test q ∷ s) kind = record { is = refl; fits = simp append_assoc }
 
-  pushed_is : (n : Node) → Pushed n ≡ stacked (suc height) (slice_set places height count) (among (suc count) (slice_set nodes count n))
-  pushed_is n =
-      ap (λ h. stacked h (slice_set places height count) (among (count + 1) (slice_set nodes count n))) (add-one height)
-      ∙ ap (λ k. stacked (suc height) (slice_set places height count) (among k (slice_set nodes count n))) (add-one count)
+puts : (c : Code) (s : List Found) → Finds c s → Puts c s
+puts (code.Number number) s kinds = record { is = refl; fits = refl }
+puts (code.Given fact) s kinds = record { is = refl; fits = refl }
+puts code.NoRank s kinds = record { is = refl; fits = refl }
+puts (code.Infix operator) s kinds =
+    let both = of_two (code.Infix operator) (λ a b. Rank (tree.Infix operator a b)) (λ a b s. refl) (λ a b. refl) s kinds in
+    record { is = both.0; fits = both.1 }
+puts (code.Call extreme) s kinds =
+    let both = of_two (code.Call extreme) (λ a b. Rank (tree.Call extreme a b)) (λ a b s. refl) (λ a b. refl) s kinds in
+    record { is = both.0; fits = both.1 }
+puts code.Choice s kinds = of_choice s kinds
+puts (code.Compare comparison) s kinds =
+    let both = of_two (code.Compare comparison) (λ a b. Test (tree.Compare comparison a b)) (λ a b s. refl) (λ a b. refl) s kinds in
+    record { is = both.0; fits = both.1 }
+puts (code.Join joiner) s kinds = of_tests joiner s kinds
+puts code.Negate s kinds = of_test s kinds
 
-  pub pushed_top : (n : Node) → count < length nodes → height < length places → top (Pushed n) ≡ made (among count nodes) n
-  pushed_top n room low =
-      ap top (pushed_is n) ∙ top_of height (slice_set places height count) (among (suc count) (slice_set nodes count n))
-      ∙ ap (λ k. among (suc count) (slice_set nodes count n) k) (get_or-set_same places height count 0 low)
-      ∙ among_put count nodes n room
+has_rank : (s : List Found) (a : Tree) (rest : List Found) → s ≡ Rank a ∷ rest → HasRank s
+unfolding HasRank
+has_rank s a rest is = subst HasRank (sym is) tt
 
-  pub pushed_under : (n : Node) → AreBelow count height places → pop (Pushed n) ≡ stacked height places (among count nodes)
-  pushed_under n below =
-      ap pop (pushed_is n) ∙ under_of height (slice_set places height count) (among (suc count) (slice_set nodes count n))
-      ∙ same_stack height (slice_set places height count) places (among (suc count) (slice_set nodes count n)) (among count nodes) kept
-    where
-      kept : (k : ℕ) → k < height → among (suc count) (slice_set nodes count n) (get_or (slice_set places height count) k 0) ≡ among count nodes (get_or places k 0)
-      kept k small =
-          ap (λ p. among (suc count) (slice_set nodes count n) p) (get_or-set_other places height k count 0 (λ e. omega (arith, e, small)))
-          ∙ among_more count (suc count) (get_or places k 0) (slice_set nodes count n) (below k small) (omega arith)
-          ∙ ap (λ f. f (get_or places k 0)) (among_set count nodes n)
+has_test : (s : List Found) (q : Condition) (rest : List Found) → s ≡ Test q ∷ rest → HasTest s
+unfolding HasTest
+has_test s q rest is = subst HasTest (sym is) tt
 
--- the same of what is being made
-pub stack_is : (made : Making) → stack made ≡ stacked made.height made.places (among made.count made.nodes)
-unfolding stack
-stack_is made = refl
+makes : (c : Code) (s new : List Found) → new ≡ made_by c s ∷ under_by c s → Makes c new
+makes (code.Number number) s new is = has_rank new _ _ is
+makes (code.Given fact) s new is = has_rank new _ _ is
+makes code.NoRank s new is = has_rank new _ _ is
+makes (code.Infix operator) s new is = has_rank new _ _ is
+makes (code.Call extreme) s new is = has_rank new _ _ is
+makes code.Choice s new is = has_rank new _ _ is
+makes (code.Compare comparison) s new is = has_test new _ _ is
+makes (code.Join joiner) s new is = has_test new _ _ is
+makes code.Negate s new is = has_test new _ _ is
 
--- what is on top, by its place among all nodes
-pub root_is : (made : Making) (h : ℕ) → suc h ≡ made.height → found_in made.nodes (get_or made.places h 0) ≡ top (stack made)
-root_is made h e =
-    ap (λ n. among n made.nodes (get_or made.places h 0)) made.wide.0
-    ∙ among_more made.count 64 (get_or made.places h 0) made.nodes (made.below h (omega (arith, e))) made.few
-    ∙ (popped made.nodes made.count made.places made.height h e).0 ∙ ap top (sym (stack_is made))
+-- ---- a code behind those that were there
 
-pub no_root : (made : Making) → made.height ≡ 0 → found_in made.nodes 64 ≡ top (stack made)
-no_root made e =
-    among_none (length made.nodes) 64 made.nodes (omega (arith, made.wide.0)) ∙ sym (among_none made.count 64 made.nodes made.few)
-    ∙ (none_popped made.nodes made.count made.places made.height e made.few).0 ∙ ap top (sym (stack_is made))
+module _ (codes grown : List Code) (c : Code) (laid : codes ≡ layouts (builds codes [])) (is : grown ≡ codes ++ c ∷ []) (kinds : Finds c (builds codes [])) where
+  -- it is built on what was there
+  pushed : builds grown [] ≡ builds (c ∷ []) (builds codes [])
+  pushed = ap (λ l. builds l []) (is ∙ ap (λ l. l ++ c ∷ []) laid) ∙ builds_all (builds codes []) (c ∷ [])
+
+  put : builds grown [] ≡ made_by c (builds codes []) ∷ under_by c (builds codes [])
+  put = pushed ∙ (puts c (builds codes []) kinds).is
+
+  pub still_laid : grown ≡ layouts (builds grown [])
+  still_laid = is ∙ ap (λ l. l ++ c ∷ []) laid ∙ sym (puts c (builds codes []) kinds).fits ∙ ap layouts (sym pushed)
+
+  pub put_kind : Makes c (builds grown [])
+  put_kind = makes c (builds codes []) (builds grown []) put
+
+  pub put_top : top (builds grown []) ≡ made_by c (builds codes [])
+  unfolding top
+  put_top = ap top put
+
+  pub put_under : pop (builds grown []) ≡ under_by c (builds codes [])
+  unfolding pop
+  put_under = ap pop put
+
+-- an expression alone on a stack
+pub alone_is : (s : List Found) → HasRank s → pop s ≡ [] → s ≡ Rank (tree_of (top s)) ∷ []
+unfolding HasRank top pop
+alone_is [] kind none = absurd kind
+alone_is (Test q ∷ s) kind none = absurd kind
+alone_is (Rank a ∷ s) kind none = ap (λ l. Rank a ∷ l) none
+
+-- the one expression that was made is that of its codes
+pub made_is : (tokens : List Token) (codes : List Code) (a : Tree) → codes ≡ layouts (builds codes []) → builds codes [] ≡ Rank a ∷ [] → whole tokens ≡ Ok a → IsMadeOf tokens codes
+made_is tokens codes a laid is read =
+    let built : a ≡ built_of codes = sym (ap alone is) in
+    record { read = read ∙ ap Ok built; laid = laid ∙ ap layouts is ∙ ap layout built }

@@ -22,3 +22,8 @@ mutual
     Compare : Comparison → Tree → Tree → Condition
     Join : Joiner → Condition → Condition → Condition
     Negate : Condition → Condition
+
+-- An expression or a test
+pub data Found : Type 0 where
+  Rank : Tree → Found
+  Test : Condition → Found

@@ -1,4 +1,4 @@
--- What only private functions cite.
+-- What only private functions cite, and how tokens are cut off and read: a law tells what that gives.
 pub mod Cutting
 pub mod Reading
 pub mod Limits
@@ -6,5 +6,4 @@ pub mod Stacks
 pub mod Made
 pub mod Written
 pub mod Ends
-pub mod Laying
 pub mod Row

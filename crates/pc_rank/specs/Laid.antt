@@ -1,10 +1,9 @@
 -- The codes of an expression build it.
 use Rattle.std.specs.Prelude.{◌≡◌, List, [], ◌∷◌, ◌++◌, refl}
 use Rattle.std.proofs.Common.{sym, ap, ◌∙◌, append_assoc, append-nil}
-use Rattle.pc_rank.specs.Expressions.{Tree, Condition}
+use Rattle.pc_rank.specs.Expressions.{Tree, Condition, Found, Rank, Test}
 use Rattle.pc_rank.specs.Expressions as tree
 use Rattle.pc_rank.specs.Layout.{layout, test_layout, builds, alone, built_of}
-use Rattle.pc_rank.specs.Nodes.{Found, Rank, Test}
 use Rattle.pc_rank.specs.declared.code.Code.{Code}
 use Rattle.pc_rank.specs.declared.code.Code.TheVariants as code
 

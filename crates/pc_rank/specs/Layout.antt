@@ -1,8 +1,7 @@
 -- Trees as lists of codes: each code stands right behind what it is made of.
-use Rattle.std.specs.Prelude.{◌≡◌, ℕ, List, [], ◌∷◌, ◌++◌}
-use Rattle.pc_rank.specs.Expressions.{Tree, Condition}
+use Rattle.std.specs.Prelude.{List, [], ◌∷◌, ◌++◌}
+use Rattle.pc_rank.specs.Expressions.{Tree, Condition, Found, Rank, Test}
 use Rattle.pc_rank.specs.Expressions as tree
-use Rattle.pc_rank.specs.Nodes.{Found, Rank, Test}
 use Rattle.pc_rank.specs.declared.code.Code.{Code}
 use Rattle.pc_rank.specs.declared.code.Code.TheVariants as code
 

@@ -1,6 +1,5 @@
 -- Expressions that give a thread's rank: what they are, what they mean, and which text they have.
 pub mod Expressions
-pub mod Nodes
 pub mod Layout
 pub mod Laid
 pub mod Form

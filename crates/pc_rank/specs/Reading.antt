@@ -1,12 +1,16 @@
 -- Which expression a text has, and what a reader may answer.
-use Rattle.std.specs.Prelude.{ℕ, ◌+◌, ◌<◌, ◌≤◌, ◌⊎◌, List, length}
+use Rattle.std.specs.Prelude.{ℕ, ◌+◌, ◌<◌, ◌≤◌, leb, ◌&&◌, ◌⊎◌, List, length, Option, Some, None, Result, Ok, Err}
+use Rattle.std.specs.Prelude.{if◌then◌else◌}
 use Rattle.pc_rank.specs.Expressions.{Tree, Condition}
 use Rattle.pc_rank.specs.Expressions as tree
 use Rattle.pc_rank.specs.Grammar.{IsExpression}
+use Rattle.pc_rank.specs.Inner.Cutting.{tokens_of}
+use Rattle.pc_rank.specs.Inner.Reading.{whole}
 use Rattle.pc_rank.specs.Texts.{text_of}
 use Rattle.pc_rank.specs.Tokens.{Spells}
 use Rattle.pc_rank.specs.declared.fault.RankFault.{RankFault}
 use Rattle.pc_rank.specs.declared.fault.RankFault.TheVariants as fault
+use Rattle.pc_rank.specs.declared.halt.Halt.{Halt}
 use Rattle.pc_rank.specs.declared.token.Token.{Token}
 
 abbrev mutual
@@ -36,6 +40,16 @@ pub record IsReadable (a : Tree) : Type 0 where
   pub text : IsText (text_of a) a
   pub short : length (text_of a) ≤ 512
   pub few : nodes a ≤ 64
+
+-- what was read, where it is within the limits
+abbrev pub limited : Result Tree Halt → Option Tree
+limited (Ok a) = if leb (nodes a) 64 && leb (length (text_of a)) 512 then Some a else None
+limited (Err halt) = None
+
+-- The expression that a text of up to 512 bytes is read as: the one that all of its tokens make, if that is within the
+-- limits. How tokens are cut off and read stands in Inner, since a law of texts tells which expression it is.
+unfoldable pub expression_of : List ℕ → Option Tree
+expression_of text = if leb (length text) 512 then limited (whole (tokens_of text)) else None
 
 -- Why no expression was read: the text is past 512 bytes, or would be written in more, or is of no expression up to 64
 -- nodes, or of none at all

@@ -1,10 +1,11 @@
 //! Expressions.
 
 ghost use Rattle.std.specs.Prelude.{◌≡◌, ◌≤◌, IfErr, IfOk, length};
+ghost use Rattle.std.specs.Result.{result_ok};
 ghost use Rattle.pc_rank.specs.Expressions.{Tree};
 ghost use Rattle.pc_rank.specs.Layout.{layout};
 ghost use Rattle.pc_rank.specs.Meaning.{rank_by};
-ghost use Rattle.pc_rank.specs.Reading.{IsReadable, IsText, Refuses, nodes};
+ghost use Rattle.pc_rank.specs.Reading.{IsReadable, IsText, Refuses, expression_of, nodes};
 
 use crate::code::Code;
 use crate::display::write_expression;
@@ -12,7 +13,6 @@ use crate::evaluate::rank_of;
 use crate::facts::Facts;
 use crate::fault::RankFault;
 use crate::input::{made_of, within_limits};
-use crate::lay::laid_out;
 use crate::lexer::tokens_of;
 use crate::row::Row;
 use crate::written::behind_expression;
@@ -62,14 +62,15 @@ impl Expression {
         ensures only { IfOk result (λ e. (a : Tree) → IsText text.now a → e ≡ a) }
         // What is within the limits is read.
         ensures complete { IfErr result (λ fault. Refuses text.now fault) }
+        // So what is read is a function of the text.
+        ensures reads { result_ok result ≡ expression_of text.now }
     {
         if text.len() > Expression::LONGEST {
             return Err(RankFault::TooLong);
         }
         let found = tokens_of(text);
         within_limits(&found)?;
-        let made = made_of(&found, text.len())?;
-        let row = laid_out(&made.nodes, made.root());
+        let row = made_of(&found, text.len())?;
         if behind_expression(Expression::LONGEST, row.as_slice()).is_none() {
             return Err(RankFault::TooLong);
         }

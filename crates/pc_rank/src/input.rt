@@ -1,9 +1,7 @@
-//! Expressions of texts that are cut into tokens.
+//! Codes of texts that are cut into tokens.
 
-ghost use Rattle.std.specs.Prelude.{◌≡◌, ◌≤◌, IfErr, IfOk, Ok, OnOk, count_by};
-ghost use Rattle.pc_rank.specs.Inner.Limits.{IsNoTree, IsPlaced, IsTooMany, tokens_in};
-ghost use Rattle.pc_rank.specs.Inner.Made.{tree_on};
-ghost use Rattle.pc_rank.specs.Inner.Reading.{whole};
+ghost use Rattle.std.specs.Prelude.{◌≡◌, ◌≤◌, IfErr, IfOk, OnOk, count_by};
+ghost use Rattle.pc_rank.specs.Inner.Limits.{IsMadeOf, IsNoTree, IsPlaced, IsTooMany, tokens_in};
 ghost use Rattle.pc_rank.specs.Tokens.{is_node};
 
 use crate::expression::Expression;
@@ -11,6 +9,7 @@ use crate::fault::RankFault;
 use crate::halt::Halt;
 use crate::making::Making;
 use crate::reader::whole;
+use crate::row::Row;
 use crate::token::{Token, Tokens};
 
 /// Whether a token makes a node.
@@ -64,15 +63,15 @@ fn placed(found: &Tokens, end: usize, halt: Halt) -> RankFault
     }
 }
 
-/// Makes the expression of all tokens.
-pub(crate) fn made_of(found: &Tokens, end: usize) -> Result<Making, RankFault>
+/// Makes the codes of the expression of all tokens.
+pub(crate) fn made_of(found: &Tokens, end: usize) -> Result<Row, RankFault>
     requires { count_by is_node (tokens_in found.now) ≤ 64 }
-    ensures ok { IfOk result (λ made. whole (tokens_in found.now) ≡ Ok (tree_on made)) }
+    ensures ok { IfOk result (λ row. IsMadeOf (tokens_in found.now) row) }
     ensures err { IfErr result (λ fault. IsNoTree (tokens_in found.now) fault) }
 {
     let mut made = Making::new();
     match whole(&mut made, found.tokens()) {
-        Ok(()) => Ok(made),
+        Ok(()) => Ok(made.into_row()),
         Err(halt) => Err(placed(found, end, halt)),
     }
 }

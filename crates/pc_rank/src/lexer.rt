@@ -3,8 +3,8 @@
 ghost use Rattle.std.specs.Prelude.{◌≡◌, ℕ, ◌<◌, ◌≤◌, ◌^◌, ◌↔◌, false, true, IsTrue};
 ghost use Rattle.std.specs.Prelude.{MatchOption, decimal, length};
 ghost use Rattle.std.specs.Prelude.{slice_index};
-ghost use Rattle.pc_rank.specs.Inner.Cutting.{before_equals, doubles, fact_named, letters, sign_at, single};
-ghost use Rattle.pc_rank.specs.Inner.Cutting.{Cuts, HasTokens, IsNamed, word_named};
+ghost use Rattle.pc_rank.specs.Inner.Cutting.{before_equals, doubles, fact_named, first_token, letters, sign_at};
+ghost use Rattle.pc_rank.specs.Inner.Cutting.{single, tokens_of, word_named, word_token};
 ghost use Rattle.pc_rank.specs.Inner.Limits.{tokens_in};
 ghost use Rattle.pc_rank.specs.Tokens.{is_of_word};
 ghost use Rattle.pc_rank.specs.declared.token.Token.TheVariants as token;
@@ -169,7 +169,7 @@ fn sign(text: &[u8]) -> (Token, &[u8])
 /// The token that a word is.
 fn word_token(word: &[u8]) -> Token
     requires { 0 < length word.now }
-    ensures { IsNamed word.now result }
+    ensures { result ≡ word_token word.now }
 {
     match number(word) {
         Some(number) => Token::Number(number),
@@ -180,7 +180,7 @@ fn word_token(word: &[u8]) -> Token
 
 /// The first token of a text, and the text behind it.
 fn first_token(text: &[u8]) -> (Token, &[u8])
-    ensures cuts { Cuts text.now result.0 result.1.now }
+    ensures cuts { (result.0, result.1.now) ≡ first_token text.now }
     ensures less { 0 < length text.now → length result.1.now < length text.now }
 {
     let length = letters(text);
@@ -194,7 +194,7 @@ fn first_token(text: &[u8]) -> (Token, &[u8])
 /// The tokens of a text, and the place of each.
 pub(crate) fn tokens_of(text: &[u8]) -> Tokens
     requires { length text.now ≤ 512 }
-    ensures { HasTokens text.now (tokens_in result) }
+    ensures { tokens_in result ≡ tokens_of text.now }
 {
     let mut tokens = [Token::Unknown; Expression::LONGEST];
     let mut places = [0; Expression::LONGEST];

@@ -1,13 +1,16 @@
-//! Trees of tokens, read from left to right.
+//! Codes of tokens, read from left to right.
 //!
 //! No function goes more than sixteen levels deep: each level is left at [`part_at`], which counts them.
 
-ghost use Rattle.std.specs.Prelude.{◌≡◌, ◌+◌, ◌<◌, ◌≤◌, IfOk, OnOk};
-ghost use Rattle.pc_rank.specs.Inner.Made.{found_on, load, stack, test_on, tree_on, under};
+ghost use Rattle.std.specs.Prelude.{◌≡◌, ◌+◌, ◌<◌, ◌≤◌, [], ◌∷◌, IfOk, OnOk};
+ghost use Rattle.pc_rank.specs.Expressions.{Rank};
+ghost use Rattle.pc_rank.specs.Inner.Made.{found_on, load, stack, test_on, tree_on, under, Has};
 ghost use Rattle.pc_rank.specs.Inner.Reading.{after_in, call_in, choice_in, compared_in, either_in, expression_in};
 ghost use Rattle.pc_rank.specs.Inner.Reading.{group_in, grouped_in, infix_in, joined_in, opened_in, part_at};
 ghost use Rattle.pc_rank.specs.Inner.Reading.{Gives, part_in, rank_in, sum_in, term_in, test_in, tests_in, whole};
+ghost use Rattle.pc_rank.specs.Inner.Stacks.{HasRank, HasTest};
 
+use crate::code::Code;
 use crate::fault::Wanted;
 use crate::halt::{Halt, Lead, Part, Place};
 use crate::making::Making;
@@ -33,6 +36,7 @@ fn rank_at<'a>(
     requires { load made.old tokens.now ≤ 64 }
     ensures read { Gives (λ rest. (tree_on made.new, rest.now)) result (rank_in (part_at levels) place tokens.now) }
     ensures under { OnOk result (under made.new ≡ stack made.old) }
+    ensures kind { OnOk result (HasRank (stack made.new)) }
     ensures load { IfOk result (λ rest. load made.new rest.now ≤ load made.old tokens.now) }
 {
     let (part, rest) = part_at(made, levels, place, tokens)?;
@@ -54,6 +58,7 @@ fn test_at<'a>(
     requires { load made.old tokens.now ≤ 64 }
     ensures read { Gives (λ rest. (test_on made.new, rest.now)) result (test_in (part_at levels) place tokens.now) }
     ensures under { OnOk result (under made.new ≡ stack made.old) }
+    ensures kind { OnOk result (HasTest (stack made.new)) }
     ensures load { IfOk result (λ rest. load made.new rest.now ≤ load made.old tokens.now) }
 {
     let (part, rest) = part_at(made, levels, place, tokens)?;
@@ -70,6 +75,7 @@ fn choice_at<'a>(made: &mut Making, levels: u8, tokens: &'a [Token]) -> Result<&
     requires { load made.old tokens.now < 64 }
     ensures read { Gives (λ rest. (tree_on made.new, rest.now)) result (choice_in (part_at levels) tokens.now) }
     ensures under { OnOk result (under made.new ≡ stack made.old) }
+    ensures kind { OnOk result (HasRank (stack made.new)) }
     ensures load { IfOk result (λ rest. load made.new rest.now ≤ load made.old tokens.now + 1) }
 {
     let rest = test_at(made, levels, Place::Test, tokens)?;
@@ -77,7 +83,7 @@ fn choice_at<'a>(made: &mut Making, levels: u8, tokens: &'a [Token]) -> Result<&
     let rest = rank_at(made, levels, Place::Expression, rest)?;
     let rest = behind(Wanted::Else, rest)?;
     let rest = rank_at(made, levels, Place::Expression, rest)?;
-    made.choice();
+    made.push(Code::Choice);
     Ok(rest)
 }
 
@@ -93,6 +99,7 @@ fn call_at<'a>(
     requires { load made.old tokens.now < 64 }
     ensures read { Gives (λ rest. (tree_on made.new, rest.now)) result (call_in (part_at levels) extreme tokens.now) }
     ensures under { OnOk result (under made.new ≡ stack made.old) }
+    ensures kind { OnOk result (HasRank (stack made.new)) }
     ensures load { IfOk result (λ rest. load made.new rest.now ≤ load made.old tokens.now + 1) }
 {
     let rest = behind(Wanted::Open, tokens)?;
@@ -100,7 +107,7 @@ fn call_at<'a>(
     let rest = behind(Wanted::Comma, rest)?;
     let rest = rank_at(made, levels, Place::Expression, rest)?;
     let rest = behind(Wanted::Close, rest)?;
-    made.call(extreme);
+    made.push(Code::Call(extreme));
     Ok(rest)
 }
 
@@ -111,6 +118,7 @@ fn group_at<'a>(made: &mut Making, levels: u8, tokens: &'a [Token]) -> Result<&'
     requires { load made.old tokens.now ≤ 64 }
     ensures read { Gives (λ rest. (tree_on made.new, rest.now)) result (group_in (part_at levels) tokens.now) }
     ensures under { OnOk result (under made.new ≡ stack made.old) }
+    ensures kind { OnOk result (HasRank (stack made.new)) }
     ensures load { IfOk result (λ rest. load made.new rest.now ≤ load made.old tokens.now) }
 {
     let rest = rank_at(made, levels, Place::Expression, tokens)?;
@@ -124,21 +132,22 @@ fn term_at<'a>(made: &mut Making, levels: u8, tokens: &'a [Token]) -> Result<&'a
     requires { load made.old tokens.now ≤ 64 }
     ensures read { Gives (λ rest. (tree_on made.new, rest.now)) result (term_in (part_at levels) tokens.now) }
     ensures under { OnOk result (under made.new ≡ stack made.old) }
+    ensures kind { OnOk result (HasRank (stack made.new)) }
     ensures load { IfOk result (λ rest. load made.new rest.now ≤ load made.old tokens.now) }
 {
     match tokens {
         [] => Err(wanted_at(tokens, Wanted::Operand)),
         [token, rest @ ..] => match token {
             Token::Number(number) => {
-                made.number(*number);
+                made.push(Code::Number(*number));
                 Ok(rest)
             }
             Token::Given(fact) => {
-                made.given(*fact);
+                made.push(Code::Given(*fact));
                 Ok(rest)
             }
             Token::NoRank => {
-                made.no_rank();
+                made.push(Code::NoRank);
                 Ok(rest)
             }
             Token::Open => group_at(made, levels, rest),
@@ -158,20 +167,22 @@ fn infix_at<'a>(
     operator: Operator,
     tokens: &'a [Token],
 ) -> Result<&'a [Token], Halt>
-    requires { load made.old tokens.now < 64 }
+    requires load { load made.old tokens.now < 64 }
+    requires kind { HasRank (stack made.old) }
     ensures read { Gives (λ rest. (tree_on made.new, rest.now)) result
         (infix_in (part_at levels) operator (tree_on made.old) tokens.now) }
     ensures under { OnOk result (under made.new ≡ under made.old) }
+    ensures kind { OnOk result (HasRank (stack made.new)) }
     ensures load { IfOk result (λ rest. load made.new rest.now ≤ load made.old tokens.now + 1) }
 {
     if operator.may_chain() {
         let rest = rank_at(made, levels, Place::Chain(operator), tokens)?;
-        made.infix(operator);
+        made.push(Code::Infix(operator));
         return Ok(rest);
     }
     let rest = term_at(made, levels, tokens)?;
     let rest = ended(rest)?;
-    made.infix(operator);
+    made.push(Code::Infix(operator));
     Ok(rest)
 }
 
@@ -184,10 +195,12 @@ fn after_at<'a>(
     chained: Option<Operator>,
     tokens: &'a [Token],
 ) -> Result<&'a [Token], Halt>
-    requires { load made.old tokens.now ≤ 64 }
+    requires load { load made.old tokens.now ≤ 64 }
+    requires kind { HasRank (stack made.old) }
     ensures read { Gives (λ rest. (tree_on made.new, rest.now)) result
         (after_in (part_at levels) chained (tree_on made.old) tokens.now) }
     ensures under { OnOk result (under made.new ≡ under made.old) }
+    ensures kind { OnOk result (HasRank (stack made.new)) }
     ensures load { IfOk result (λ rest. load made.new rest.now ≤ load made.old tokens.now) }
 {
     match next_operator(tokens) {
@@ -214,6 +227,7 @@ fn sum_at<'a>(
     requires { load made.old tokens.now ≤ 64 }
     ensures read { Gives (λ rest. (tree_on made.new, rest.now)) result (sum_in (part_at levels) chained tokens.now) }
     ensures under { OnOk result (under made.new ≡ stack made.old) }
+    ensures kind { OnOk result (HasRank (stack made.new)) }
     ensures load { IfOk result (λ rest. load made.new rest.now ≤ load made.old tokens.now) }
 {
     let rest = term_at(made, levels, tokens)?;
@@ -228,17 +242,19 @@ fn compared_at<'a>(
     levels: u8,
     tokens: &'a [Token],
 ) -> Result<(Part, &'a [Token]), Halt>
-    requires { load made.old tokens.now ≤ 64 }
+    requires load { load made.old tokens.now ≤ 64 }
+    requires kind { HasRank (stack made.old) }
     ensures read { Gives (λ x. (found_on x.0 made.new, x.1.now)) result
         (compared_in (part_at levels) (tree_on made.old) tokens.now) }
     ensures under { OnOk result (under made.new ≡ under made.old) }
+    ensures kind { IfOk result (λ x. Has x.0 (stack made.new)) }
     ensures load { IfOk result (λ x. load made.new x.1.now ≤ load made.old tokens.now) }
 {
     match next_comparison(tokens) {
         None => Ok((Part::Rank, tokens)),
         Some(comparison) => {
             let rest = sum_at(made, levels, None, rest_of(tokens))?;
-            made.compare(comparison);
+            made.push(Code::Compare(comparison));
             Ok((Part::Test, rest))
         }
     }
@@ -251,6 +267,7 @@ fn grouped_at<'a>(made: &mut Making, levels: u8, tokens: &'a [Token]) -> Result<
     requires { load made.old tokens.now ≤ 64 }
     ensures read { Gives (λ rest. (test_on made.new, rest.now)) result (grouped_in (part_at levels) tokens.now) }
     ensures under { OnOk result (under made.new ≡ stack made.old) }
+    ensures kind { OnOk result (HasTest (stack made.new)) }
     ensures load { IfOk result (λ rest. load made.new rest.now ≤ load made.old tokens.now) }
 {
     let rest = behind(Wanted::Open, tokens)?;
@@ -267,10 +284,12 @@ fn joined_at<'a>(
     chained: Option<Joiner>,
     tokens: &'a [Token],
 ) -> Result<&'a [Token], Halt>
-    requires { load made.old tokens.now ≤ 64 }
+    requires load { load made.old tokens.now ≤ 64 }
+    requires kind { HasTest (stack made.old) }
     ensures read { Gives (λ rest. (test_on made.new, rest.now)) result
         (joined_in (part_at levels) chained (test_on made.old) tokens.now) }
     ensures under { OnOk result (under made.new ≡ under made.old) }
+    ensures kind { OnOk result (HasTest (stack made.new)) }
     ensures load { IfOk result (λ rest. load made.new rest.now ≤ load made.old tokens.now) }
 {
     match next_joiner(tokens) {
@@ -283,7 +302,7 @@ fn joined_at<'a>(
                 Err(wanted_at(tokens, Wanted::Parentheses))
             } else {
                 let rest = test_at(made, levels, Place::Joined(joiner), rest_of(tokens))?;
-                made.join(joiner);
+                made.push(Code::Join(joiner));
                 Ok(rest)
             }
         }
@@ -301,6 +320,7 @@ fn opened_at<'a>(
     requires { load made.old tokens.now ≤ 64 }
     ensures read { Gives (λ x. (found_on x.0 made.new, x.1.now)) result (opened_in (part_at levels) tokens.now) }
     ensures under { OnOk result (under made.new ≡ stack made.old) }
+    ensures kind { IfOk result (λ x. Has x.0 (stack made.new)) }
     ensures load { IfOk result (λ x. load made.new x.1.now ≤ load made.old tokens.now) }
 {
     let (part, rest) = part_at(made, levels, Place::Either, tokens)?;
@@ -328,6 +348,7 @@ fn either_at<'a>(
     requires { load made.old tokens.now ≤ 64 }
     ensures read { Gives (λ x. (found_on x.0 made.new, x.1.now)) result (either_in (part_at levels) tokens.now) }
     ensures under { OnOk result (under made.new ≡ stack made.old) }
+    ensures kind { IfOk result (λ x. Has x.0 (stack made.new)) }
     ensures load { IfOk result (λ x. load made.new x.1.now ≤ load made.old tokens.now) }
 {
     match next_lead(tokens) {
@@ -337,7 +358,7 @@ fn either_at<'a>(
         }
         Lead::Negation => {
             let rest = grouped_at(made, levels, rest_of(tokens))?;
-            made.negate();
+            made.push(Code::Negate);
             Ok((Part::Test, rest))
         }
         Lead::Group => opened_at(made, levels, rest_of(tokens)),
@@ -359,6 +380,7 @@ fn expression_at<'a>(
     requires { load made.old tokens.now ≤ 64 }
     ensures read { Gives (λ rest. (tree_on made.new, rest.now)) result (expression_in (part_at levels) tokens.now) }
     ensures under { OnOk result (under made.new ≡ stack made.old) }
+    ensures kind { OnOk result (HasRank (stack made.new)) }
     ensures load { IfOk result (λ rest. load made.new rest.now ≤ load made.old tokens.now) }
 {
     match next_lead(tokens) {
@@ -379,6 +401,7 @@ fn tests_at<'a>(
     requires { load made.old tokens.now ≤ 64 }
     ensures read { Gives (λ rest. (test_on made.new, rest.now)) result (tests_in (part_at levels) joiner tokens.now) }
     ensures under { OnOk result (under made.new ≡ stack made.old) }
+    ensures kind { OnOk result (HasTest (stack made.new)) }
     ensures load { IfOk result (λ rest. load made.new rest.now ≤ load made.old tokens.now) }
 {
     let rest = grouped_at(made, levels, tokens)?;
@@ -397,6 +420,7 @@ fn found_at<'a>(
     requires { load made.old tokens.now ≤ 64 }
     ensures read { Gives (λ x. (found_on x.0 made.new, x.1.now)) result (part_in (part_at levels) place tokens.now) }
     ensures under { OnOk result (under made.new ≡ stack made.old) }
+    ensures kind { IfOk result (λ x. Has x.0 (stack made.new)) }
     ensures load { IfOk result (λ x. load made.new x.1.now ≤ load made.old tokens.now) }
 {
     match place {
@@ -432,6 +456,7 @@ fn part_at<'a>(
     requires { load made.old tokens.now ≤ 64 }
     ensures read { Gives (λ x. (found_on x.0 made.new, x.1.now)) result (part_at levels place tokens.now) }
     ensures under { OnOk result (under made.new ≡ stack made.old) }
+    ensures kind { IfOk result (λ x. Has x.0 (stack made.new)) }
     ensures load { IfOk result (λ x. load made.new x.1.now ≤ load made.old tokens.now) }
 {
     if levels == 0 {
@@ -443,8 +468,10 @@ fn part_at<'a>(
 /// Makes the expression that all of the tokens are.
 #[tactic(auto, unfolding(crate::specs::Inner::Reading::whole))]
 pub(crate) fn whole(made: &mut Making, tokens: &[Token]) -> Result<(), Halt>
-    requires { load made.old tokens.now ≤ 64 }
-    ensures { Gives (λ _. tree_on made.new) result (whole tokens.now) }
+    requires load { load made.old tokens.now ≤ 64 }
+    requires none { stack made.old ≡ [] }
+    ensures read { Gives (λ _. tree_on made.new) result (whole tokens.now) }
+    ensures alone { OnOk result (stack made.new ≡ Rank (tree_on made.new) ∷ []) }
 {
     let rest = rank_at(made, LEVELS, Place::Expression, tokens)?;
     match rest {

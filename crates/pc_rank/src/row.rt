@@ -1,7 +1,6 @@
 //! Codes that grow to those of an expression.
 
-ghost use Rattle.std.specs.Prelude.{◌≡◌, ◌-◌, [], ◌∷◌, ◌++◌, length, replicate};
-ghost use Rattle.pc_rank.specs.Inner.Laying.{Adds};
+ghost use Rattle.std.specs.Prelude.{◌≡◌, ◌-◌, ◌<◌, [], ◌∷◌, ◌++◌, length, replicate};
 
 use crate::code::Code;
 use crate::expression::Expression;
@@ -39,16 +38,13 @@ impl Row {
     }
 
     /// One more behind the others.
-    pub(crate) fn push(&mut self, code: Code) -> Option<()>
-        ensures { Adds self.old (code ∷ []) result self.new }
+    pub(crate) fn push(&mut self, code: Code)
+        requires { length self.old < 64 }
+        ensures { self.new ≡ self.old ++ code ∷ [] }
     {
         let index = usize::from(self.count);
-        if index >= Expression::MOST_NODES {
-            return None;
-        }
         self.codes[index] = code;
         self.count += 1;
-        Some(())
     }
 
     /// The codes.

@@ -1,8 +1,9 @@
 -- A text is cut into its tokens from the left.
-use Rattle.std.specs.Prelude.{◌≡◌, ℕ, suc, ◌==◌, Bool, true, false, ◌&&◌, ◌||◌, List, [], ◌∷◌, ◌++◌, codes}
-use Rattle.std.specs.Prelude.{bytes_eq, if◌then◌else◌}
-use Rattle.std.specs.List.{AllByRecursion}
-use Rattle.pc_rank.specs.Tokens.{IsToken, Spells, begins, is_of_word, lengthens, token_text}
+use Rattle.std.specs.Prelude.{ℕ, zero, suc, ◌^◌, ◌==◌, nat_lt, Bool, ◌&&◌, ◌||◌, List, [], ◌∷◌, length, take, drop}
+use Rattle.std.specs.Prelude.{bytes_eq, codes, decimal, if◌then◌else◌}
+use Rattle.std.specs.Char.{is_ascii_digit}
+use Rattle.std.specs.Str.Parse.{digits_value}
+use Rattle.pc_rank.specs.Tokens.{begins, is_of_word}
 use Rattle.pc_rank.specs.declared.facts.Fact.TheVariants as fact
 use Rattle.pc_rank.specs.declared.operators.Comparison.TheVariants as comparison
 use Rattle.pc_rank.specs.declared.operators.Extreme.TheVariants as extreme
@@ -69,40 +70,29 @@ sign_at (byte ∷ []) = (single byte, [])
 sign_at (byte ∷ next ∷ bytes) =
     if doubles byte && next == 61 then (before_equals byte, bytes) else (single byte, next ∷ bytes)
 
--- the tokens that are no words and no numbers
-abbrev pub is_sign : Token → Bool
-is_sign (token.Infix operator) = true
-is_sign (token.Compare comparison) = true
-is_sign token.Open = true
-is_sign token.Close = true
-is_sign token.Comma = true
-is_sign _ = false
+-- a word that is a number in decimal, below 2 ^ 64
+unfoldable pub is_number : List ℕ → Bool
+is_number word = nat_lt (digits_value 10 word) (2 ^ 64) && bytes_eq word (decimal (digits_value 10 word))
 
--- a token that was found, and no mark of where none was
-abbrev pub IsKnown : Token → Type 0
-IsKnown token.NoNumber = ⊥
-IsKnown token.Unknown = ⊥
-IsKnown _ = Unit {0}
+-- the token that a word or a number is
+unfoldable pub word_token : List ℕ → Token
+word_token word =
+    if is_number word then token.Number (digits_value 10 word) else
+    if begins is_ascii_digit word then token.NoNumber else word_named word
 
--- a word is written as this token, which is no sign, and as no other
-pub record IsNamed (word : List ℕ) (found : Token) : Type 0 where
-  pub kind : is_sign found ≡ false
-  pub sound : IsKnown found → IsToken found × (word ≡ token_text found)
-  pub only : (t : Token) → IsToken t → is_sign t ≡ false → word ≡ token_text t → found ≡ t
+-- the first token, and the text behind it
+unfoldable pub first_token : List ℕ → Token × List ℕ
+first_token text =
+    if letters text == 0 then sign_at text else (word_token (take (letters text) text), drop (letters text) text)
 
--- a text is cut into a first token and what is behind it
-pub record Cuts (text : List ℕ) (found : Token) (rest : List ℕ) : Type 0 where
-  pub sound : IsKnown found
-      → IsToken found × (text ≡ token_text found ++ rest) × (begins (lengthens found) rest ≡ false)
-  pub only : (t : Token) (behind : List ℕ) → IsToken t → begins (lengthens t) behind ≡ false
-      → text ≡ token_text t ++ behind → (found ≡ t) × (rest ≡ behind)
+-- the tokens of a text of so many bytes at most: spaces are passed over
+unfoldable pub tokens_within : ℕ → List ℕ → List Token
+tokens_within zero text = []
+tokens_within (suc most) [] = []
+tokens_within (suc most) (byte ∷ bytes) =
+    if byte == 32 then tokens_within most bytes
+    else (first_token (byte ∷ bytes)).0 ∷ tokens_within most (first_token (byte ∷ bytes)).1
 
--- the text begins with these tokens, and what is behind them is the rest
-pub record BeginsWith (text : List ℕ) (tokens : List Token) (rest : List ℕ) : Type 0 where
-  pub sound : AllByRecursion IsKnown tokens → (more : List Token) → Spells rest more → Spells text (tokens ++ more)
-  pub only : (all : List Token) → Spells text all → (more : List Token) × (all ≡ tokens ++ more) × Spells rest more
-
--- the text has these tokens and no others
-pub record HasTokens (text : List ℕ) (tokens : List Token) : Type 0 where
-  pub sound : AllByRecursion IsKnown tokens → Spells text tokens
-  pub only : (all : List Token) → Spells text all → all ≡ tokens
+-- the tokens of a text
+unfoldable pub tokens_of : List ℕ → List Token
+tokens_of text = tokens_within (length text) text

@@ -2,7 +2,9 @@
 use Rattle.std.specs.Prelude.{◌≡◌, ◌<◌, List, count_by, take, Ok}
 use Rattle.pc_rank.specs.Expressions.{Tree}
 use Rattle.pc_rank.specs.Inner.Reading.{whole}
+use Rattle.pc_rank.specs.Layout.{built_of, layout}
 use Rattle.pc_rank.specs.Tokens.{is_node}
+use Rattle.pc_rank.specs.declared.code.Code.{Code}
 use Rattle.pc_rank.specs.declared.fault.RankFault.{RankFault}
 use Rattle.pc_rank.specs.declared.fault.RankFault.TheVariants as fault
 use Rattle.pc_rank.specs.declared.token.Tokens.{Tokens}
@@ -11,6 +13,11 @@ use Rattle.pc_rank.specs.declared.token.Token.{Token}
 -- the tokens that were found
 abbrev pub tokens_in : Tokens → List Token
 tokens_in found = take found.count found.tokens
+
+-- the tokens make the expression of which these are the codes
+pub record IsMadeOf (tokens : List Token) (codes : List Code) : Type 0 where
+  pub read : whole tokens ≡ Ok (built_of codes)
+  pub laid : codes ≡ layout (built_of codes)
 
 -- too many tokens make nodes
 abbrev pub IsTooMany : List Token → RankFault → Type 0

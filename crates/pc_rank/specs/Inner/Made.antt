@@ -1,9 +1,9 @@
 -- What is being made, as its stack has it.
-use Rattle.std.specs.Prelude.{ℕ, ◌+◌, List}
-use Rattle.pc_rank.specs.Expressions.{Tree, Condition}
-use Rattle.pc_rank.specs.Nodes.{Found, Rank, Test, among, test_of, tree_of}
+use Rattle.std.specs.Prelude.{ℕ, ◌+◌, List, [], length}
+use Rattle.pc_rank.specs.Expressions.{Tree, Condition, Found, Rank, Test}
 use Rattle.pc_rank.specs.Inner.Reading.{weight}
-use Rattle.pc_rank.specs.Inner.Stacks.{pop, stacked, top}
+use Rattle.pc_rank.specs.Inner.Stacks.{HasRank, HasTest, pop, test_of, top, tree_of}
+use Rattle.pc_rank.specs.Layout.{builds}
 use Rattle.pc_rank.specs.declared.halt.Part.{Part}
 use Rattle.pc_rank.specs.declared.halt.Part.TheVariants as part
 use Rattle.pc_rank.specs.declared.making.Making.{Making}
@@ -11,7 +11,7 @@ use Rattle.pc_rank.specs.declared.token.Token.{Token}
 
 -- what was made and is no operand yet, the newest on top
 unfoldable pub stack : Making → List Found
-stack made = stacked made.height made.places (among made.count made.nodes)
+stack made = builds made.row []
 
 -- the expression on top, the test on top, and either
 abbrev pub tree_on : Making → Tree
@@ -24,10 +24,15 @@ abbrev pub found_on : Part → Making → Found
 found_on part.Rank made = Rank (tree_on made)
 found_on part.Test made = Test (test_on made)
 
+-- it is one that lies there
+abbrev pub Has : Part → List Found → Type 0
+Has part.Rank found = HasRank found
+Has part.Test found = HasTest found
+
 -- what lies under the top
 abbrev pub under : Making → List Found
 under made = pop (stack made)
 
--- how many nodes there may be at most, when the tokens are read
+-- how many codes there may be at most, when the tokens are read
 abbrev pub load : Making → List Token → ℕ
-load made tokens = made.count + weight tokens
+load made tokens = length made.row + weight tokens

@@ -1,11 +1,10 @@
 -- Tokens are read from left to right, up to where they cannot go on.
 use Rattle.std.specs.Prelude.{◌≡◌, ℕ, zero, suc, ◌+◌, count_by, Bool, true, false, not, List, [], ◌∷◌, drop, length}
 use Rattle.std.specs.Prelude.{Option, Some, None, Result, Ok, Err, if◌then◌else◌}
-use Rattle.pc_rank.specs.Expressions.{Tree, Condition}
+use Rattle.pc_rank.specs.Expressions.{Tree, Condition, Found, Rank, Test}
 use Rattle.pc_rank.specs.Expressions as tree
 use Rattle.pc_rank.specs.Texts.{is_joiner, is_operator, may_chain}
 use Rattle.pc_rank.specs.Tokens.{is_node}
-use Rattle.pc_rank.specs.Nodes.{Found, Rank, Test}
 use Rattle.pc_rank.specs.declared.fault.Wanted.{Wanted}
 use Rattle.pc_rank.specs.declared.fault.Wanted.TheVariants as wanted
 use Rattle.pc_rank.specs.declared.halt.Halt.{Halt}
@@ -284,14 +283,14 @@ either_of within tokens lead.Other = do
 unfoldable pub either_in : Readers → Reader Found
 either_in within tokens = either_of within tokens (next_lead tokens)
 
-abbrev pub expression_of : Readers → List Token → Lead → Result (Tree × List Token) Halt
-expression_of within tokens lead.Choice = choice_in within (drop 1 tokens)
-expression_of within tokens lead.Negation = sum_in within None tokens
-expression_of within tokens lead.Group = sum_in within None tokens
-expression_of within tokens lead.Other = sum_in within None tokens
+abbrev pub expression_led : Readers → List Token → Lead → Result (Tree × List Token) Halt
+expression_led within tokens lead.Choice = choice_in within (drop 1 tokens)
+expression_led within tokens lead.Negation = sum_in within None tokens
+expression_led within tokens lead.Group = sum_in within None tokens
+expression_led within tokens lead.Other = sum_in within None tokens
 
 unfoldable pub expression_in : Readers → Reader Tree
-expression_in within tokens = expression_of within tokens (next_lead tokens)
+expression_in within tokens = expression_led within tokens (next_lead tokens)
 
 -- no choice stands where a test is wanted
 abbrev pub tested_of : Readers → List Token → Lead → Result (Found × List Token) Halt

@@ -1,4 +1,4 @@
-use Rattle.std.proofs.Common.{length, ℕ, ◌+◌, ◌*◌}
+use Rattle.std.proofs.Common.{length, ◌+◌, ◌*◌}
 use Rattle.pc_rank.proofs.display.+display.Given as goal
 
 abbrev pub decreases-write_expression : goal.decreases-write_expression

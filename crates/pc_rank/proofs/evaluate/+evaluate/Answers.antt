@@ -1,8 +1,7 @@
-use Rattle.std.proofs.Common.{◌≡◌, ◌∙◌, ◌++◌, ◌-◌, List, Some, None, sym, ap, length, take, refl}
+use Rattle.std.proofs.Common.{◌∙◌, ◌++◌, ◌-◌, Some, sym, ap, length, refl}
 use Rattle.std.specs.Prelude.{if◌then◌else◌, not}
-use Rattle.pc_rank.specs.Meaning.{are_both, by_extreme, by_operator, compares, holds_of, joined_by, of_both, rank_by}
-use Rattle.pc_rank.specs.Expressions as tree
-use Rattle.pc_rank.specs.Layout.{layout, test_layout}
+use Rattle.pc_rank.specs.Meaning.{are_both, by_extreme, by_operator, compares, joined_by, of_both, rank_by}
+use Rattle.pc_rank.specs.Layout.{test_layout}
 use Rattle.pc_rank.proofs.Ends.{at_expression, at_no_test, at_nothing, at_other, at_other_test, at_test, take_le}
 use Rattle.pc_rank.proofs.evaluate.+evaluate.Goals as goal
 use Rattle.pc_rank.proofs.evaluate.+evaluate.Goals.{rank_of-then-holds, rank_of-else-holds}

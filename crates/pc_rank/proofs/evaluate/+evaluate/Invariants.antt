@@ -1,4 +1,4 @@
-use Rattle.std.proofs.Common.{length, ℕ, ◌+◌, ◌*◌}
+use Rattle.std.proofs.Common.{length, ◌+◌, ◌*◌}
 use Rattle.pc_rank.proofs.evaluate.+evaluate.Given as goal
 
 abbrev pub decreases-holds : goal.decreases-holds

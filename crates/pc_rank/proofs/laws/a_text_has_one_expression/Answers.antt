@@ -1,4 +1,4 @@
-use Rattle.pc_rank.proofs.Unique.{one_tree}
+use Rattle.pc_rank.proofs.Texts.{one_tree}
 use Rattle.pc_rank.proofs.laws.a_text_has_one_expression.Goals as goal
 
 pub returns : goal.returns

@@ -1,10 +1,10 @@
-use Rattle.std.proofs.Common.{◌≡◌, ◌+◌, ◌≤◌, length, take}
-use Rattle.pc_rank.specs.Inner.Cutting.{BeginsWith}
+use Rattle.std.proofs.Common.{◌≡◌, ◌+◌, ◌≤◌, ◌++◌, length, take}
+use Rattle.pc_rank.specs.Inner.Cutting.{tokens_of}
 use Rattle.pc_rank.proofs.lexer.tokens_of.Given as goal
 
 abbrev pub invariant-loop-byte : goal.invariant-loop-byte
 invariant-loop-byte l = record {
-  begins : BeginsWith l.text (take l.count l.tokens) l.rest;
+  tokens : tokens_of l.text ≡ take l.count l.tokens ++ tokens_of l.rest;
   shorter : l.count + length l.rest ≤ length l.text;
   wide : length l.tokens ≡ 512;
 }

@@ -1,4 +1,4 @@
-use Rattle.std.proofs.Common.{◌≡◌, ◌++◌}
+use Rattle.std.proofs.Common.{◌++◌}
 use Rattle.pc_rank.specs.Layout.{layout, test_layout}
 use Rattle.pc_rank.proofs.Ends.{at_expression, at_test}
 use Rattle.pc_rank.proofs.Before.{of_none, of_none_test, of_two, of_two_test}

@@ -1,5 +1,4 @@
-use Rattle.std.proofs.Common.{length, ◌≡◌, ◌≤◌, ℕ, ◌+◌, ◌-◌, ◌*◌, ◌<◌}
-use Rattle.pc_rank.specs.Inner.Ends.{AtExpression, AtTest}
+use Rattle.std.proofs.Common.{length}
 use Rattle.pc_rank.proofs.parts.+parts.Given as goal
 
 -- proposed from what the function passes where it calls itself

@@ -3,23 +3,23 @@ use Rattle.std.proofs.lemmas.Result.{IfOk-weaker}
 use Rattle.pc_rank.proofs.Weights.{head_weighs}
 use Rattle.pc_rank.proofs.reader.+reader.Goals as goal
 
-pub term_at-number-requires : goal.term_at-number-requires
-term_at-number-requires t c = omega (arith, c.requires, head_weighs _ c.args.tokens.now _ c.in-len1-up.len_at_least c.in-Number.is)
+pub term_at-push-requires-clause-room : goal.term_at-push-requires-clause-room
+term_at-push-requires-clause-room t c = omega (arith, c.requires, head_weighs _ c.args.tokens.now _ c.in-len1-up.len_at_least c.in-Number.is)
 
 pub term_at-returns-in-Number-clause-load : goal.term_at-returns-in-Number-clause-load
-term_at-returns-in-Number-clause-load t c = omega (arith, c.number.ensures.count, head_weighs _ c.args.tokens.now _ c.in-len1-up.len_at_least c.in-Number.is)
+term_at-returns-in-Number-clause-load t c = omega (arith, c.push.ensures.count, head_weighs _ c.args.tokens.now _ c.in-len1-up.len_at_least c.in-Number.is)
 
-pub term_at-given-requires : goal.term_at-given-requires
-term_at-given-requires t c = omega (arith, c.requires, head_weighs _ c.args.tokens.now _ c.in-len1-up.len_at_least c.in-Given.is)
+pub term_at-push-requires-in-Given-clause-room : goal.term_at-push-requires-in-Given-clause-room
+term_at-push-requires-in-Given-clause-room t c = omega (arith, c.requires, head_weighs _ c.args.tokens.now _ c.in-len1-up.len_at_least c.in-Given.is)
 
 pub term_at-returns-in-Given-clause-load : goal.term_at-returns-in-Given-clause-load
-term_at-returns-in-Given-clause-load t c = omega (arith, c.given.ensures.count, head_weighs _ c.args.tokens.now _ c.in-len1-up.len_at_least c.in-Given.is)
+term_at-returns-in-Given-clause-load t c = omega (arith, c.push-in-Given.ensures.count, head_weighs _ c.args.tokens.now _ c.in-len1-up.len_at_least c.in-Given.is)
 
-pub term_at-no_rank-requires : goal.term_at-no_rank-requires
-term_at-no_rank-requires t c = omega (arith, c.requires, head_weighs _ c.args.tokens.now _ c.in-len1-up.len_at_least c.in-NoRank.is)
+pub term_at-push-requires-in-NoRank-clause-room : goal.term_at-push-requires-in-NoRank-clause-room
+term_at-push-requires-in-NoRank-clause-room t c = omega (arith, c.requires, head_weighs _ c.args.tokens.now _ c.in-len1-up.len_at_least c.in-NoRank.is)
 
 pub term_at-returns-in-NoRank-clause-load : goal.term_at-returns-in-NoRank-clause-load
-term_at-returns-in-NoRank-clause-load t c = omega (arith, c.no_rank.ensures.count, head_weighs _ c.args.tokens.now _ c.in-len1-up.len_at_least c.in-NoRank.is)
+term_at-returns-in-NoRank-clause-load t c = omega (arith, c.push-in-NoRank.ensures.count, head_weighs _ c.args.tokens.now _ c.in-len1-up.len_at_least c.in-NoRank.is)
 
 pub term_at-group_at-requires : goal.term_at-group_at-requires
 term_at-group_at-requires t c = (omega arith, omega (arith, c.requires, head_weighs _ c.args.tokens.now _ c.in-len1-up.len_at_least c.in-Open.is))

@@ -1,4 +1,4 @@
-use Rattle.std.proofs.Common.{◌≤◌, ◌≡◌, sym, ap, ◌∙◌, subst}
+use Rattle.std.proofs.Common.{◌≤◌, sym, subst}
 use Rattle.pc_rank.proofs.Laid.{laid_count}
 use Rattle.pc_rank.proofs.expression.Expression.codes.Goals as goal
 

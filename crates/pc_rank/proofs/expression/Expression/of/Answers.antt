@@ -1,4 +1,3 @@
-use Rattle.std.proofs.Common.{◌≡◌}
 use Rattle.pc_rank.proofs.Laid.{is_laid, is_tree}
 use Rattle.pc_rank.proofs.expression.Expression.of.Goals as goal
 

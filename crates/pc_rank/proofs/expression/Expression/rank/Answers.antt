@@ -1,4 +1,4 @@
-use Rattle.std.proofs.Common.{[], sym}
+use Rattle.std.proofs.Common.{[]}
 use Rattle.pc_rank.proofs.expression.Expression.rank.Goals as goal
 
 pub returns : goal.returns

@@ -1,14 +1,21 @@
-use Rattle.std.proofs.Common.{◌∙◌, ap, sym, arith}
-use Rattle.pc_rank.specs.Inner.Stacks.{pop, top}
-use Rattle.pc_rank.proofs.Stacks.{pushed_top, pushed_under, stack_is}
+use Rattle.pc_rank.specs.Inner.Made.{stack}
+use Rattle.pc_rank.proofs.Stacks.{put_kind, put_top, put_under, still_laid}
 use Rattle.pc_rank.proofs.making.Making.push.Goals as goal
 
-pub returns-clause-top : goal.returns-clause-top
-returns-clause-top c =
-    let m = c.args.self.now in
-    ap top (stack_is _) ∙ pushed_top m.nodes m.count m.places m.height c.args.node (omega (arith, m.wide.0, c.requires)) (omega (arith, m.wide.1, m.low, c.requires))
+pub invariant_of-self : goal.invariant_of-self
+unfolding stack
+invariant_of-self c = let old = c.args.self.now in record {
+  laid = still_laid old.row c.push.new.self c.args.code old.laid c.push.ensures c.requires.kinds;
+}
 
-pub returns-clause-pop : goal.returns-clause-pop
-returns-clause-pop c =
-    let m = c.args.self.now in
-    ap pop (stack_is _) ∙ pushed_under m.nodes m.count m.places m.height c.args.node m.below ∙ sym (stack_is m)
+pub returns-clause-kind : goal.returns-clause-kind
+unfolding stack
+returns-clause-kind c = let old = c.args.self.now in put_kind old.row c.push.new.self c.args.code old.laid c.push.ensures c.requires.kinds
+
+pub returns-clause-top : goal.returns-clause-top
+unfolding stack
+returns-clause-top c = let old = c.args.self.now in put_top old.row c.push.new.self c.args.code old.laid c.push.ensures c.requires.kinds
+
+pub returns-clause-under : goal.returns-clause-under
+unfolding stack
+returns-clause-under c = let old = c.args.self.now in put_under old.row c.push.new.self c.args.code old.laid c.push.ensures c.requires.kinds
