@@ -391,10 +391,6 @@ def test_a_thread_runs_waits_and_sleeps_from_its_start_to_its_death():
     assert min(counted[it] for it in ("lives", "deaths", "slept", "waited", "in turns")) > 100
 
 
-def test_no_run_stalls_whose_order_leaves_nobody_out():
-    same({tried.row["end"] for tried in all_tried()}, {"done", "until"})
-
-
 def test_where_turns_take_no_time_only_steals_are_stale():
     meant, others = each(lambda tried: tried.variant.cost == 0)
     for tried in meant:

@@ -1,9 +1,8 @@
 #!/usr/bin/env python3
 """Tests picks and steals under each policy against the model of tools/kernel.py.
 
-Scripts of version 3 are drawn under each policy, with exact steals and without: 300 each, or NUMBER, and 10,000 with --all; of
-policies by expressions each script has its own. The model tells each answer of a script, and the program has to agree on each
-line. Picks and steals have to be common, and the order has to matter.
+Scripts of version 3 are drawn under each policy, with exact steals and without: 300 each, or NUMBER, and 10,000 with --all. The model
+tells each answer of a script, and the program has to agree on each line. Picks and steals have to be common, and the order has to matter.
 """
 import random
 from collections import Counter
@@ -11,12 +10,9 @@ from collections.abc import Callable
 from functools import partial
 
 import rig
-from drawn_ranks import drawn
 from kernel import LEAVES, ORDERS, Talk, World
 from rig import same
 
-EXPRESSIONS = "expressions"
-SIZES = (2, 4, 8, 12)
 MOST_THREADS = 10
 TICKS = [0, 1, 2, 3, 5, 8, 13, 4_294_967_295]
 Deed = Callable[[int, int], None]
@@ -27,9 +23,6 @@ class Drawn:
 
     def __init__(self, place: int, policy: str) -> None:
         self.chance = random.Random(f"policies {place} {policy}")
-        if policy.startswith(EXPRESSIONS):
-            text, _ = drawn(self.chance, SIZES)
-            policy = f"rank {text}{policy.removeprefix(EXPRESSIONS)}"
         self.talk, self.counts, self.lines, self.answers = Talk(), Counter[str](), list[str](), list[str]()
         cpus = self.chance.choice([1, 2, 2, 3])
         self.say("version 3")
@@ -164,6 +157,6 @@ def answers_are_the_models(policy: str) -> None:
 
 
 if __name__ == "__main__":
-    every = [order + exact for order in [*ORDERS, EXPRESSIONS] for exact in ("", " exact")]
+    every = [order + exact for order in ORDERS for exact in ("", " exact")]
     tests = [(policy, partial(answers_are_the_models, policy)) for policy in every]
     rig.main(__doc__, tests, rig.add_scripts)

@@ -39,7 +39,7 @@ impl Known {
     }
 
     /// The rank of the thread on the CPU: the least comes first.
-    fn rank(&self, order: &OrderName, cpu: Cpu, thread: Tid) -> Option<u64> {
+    fn rank(&self, order: OrderName, cpu: Cpu, thread: Tid) -> Option<u64> {
         order.rank(cpu, thread, &self.reported?)
     }
 
@@ -333,7 +333,7 @@ impl Ahead<'_> {
         if self.policy.exact && known.upto < standing.number {
             return None;
         }
-        known.rank(&self.policy.order, cpu, thread)
+        known.rank(self.policy.order, cpu, thread)
     }
 
     /// By which deed the agent learns a message that it does not know, or what leads there.

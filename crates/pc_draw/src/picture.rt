@@ -11,10 +11,10 @@ use crate::layout::PictureLayout;
 use crate::legend::draw_legend;
 use crate::moments::Moments;
 use crate::part::{DrawnPart, Interval};
-use crate::step::{Answer, Deed, Step, Story, Traces};
+use crate::step::{Answer, Step, Story, Traces};
 use crate::ticks::Scale;
 use pc_pen::{Canvas, write_end, write_opening};
-use pc_script::{Line, lines_of};
+use pc_script::{Command, Line, lines_of};
 use std::io::{self, Write};
 
 /// Writes the bars of the steps that are drawn.
@@ -130,7 +130,7 @@ fn write_marks<W: Write>(
 /// How many CPUs the accepted `enclave` has; none without one.
 pub(crate) fn cpus_of(steps: &[Step]) -> u32 {
     for step in steps {
-        if let (Deed::Enclave(limits), Answer::Opened) = (step.deed, step.answer) {
+        if let (Command::Enclave(limits), Answer::Opened) = (step.command, step.answer) {
             return u32::from(limits.cpus);
         }
     }

@@ -8,4 +8,3 @@ pub mod Texts
 pub mod Spending
 pub mod Readiness
 pub mod Leaving
-pub mod Holding

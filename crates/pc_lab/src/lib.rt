@@ -20,8 +20,6 @@ mod player;
 mod ranges;
 mod run;
 mod stage;
-mod stalls;
-mod standing;
 mod steals;
 mod summary;
 mod times;

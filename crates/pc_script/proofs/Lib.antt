@@ -3,8 +3,6 @@ pub mod Notices
 pub mod Numerals
 pub mod Pieces
 pub mod Splits
-pub mod Spaces
-pub mod Joining
 pub mod Readback
 pub mod Replays
 pub mod Spellings

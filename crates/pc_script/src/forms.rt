@@ -5,11 +5,11 @@ use pc_messages::Phase;
 use pc_policy::OrderName;
 use std::fmt;
 
-/// How orders are written, as a list: the words of those that have one, with a text between two, and one behind them.
+/// The words of all orders, as a list: it shows as them, with a text between two, and with one before the last.
 #[derive(Clone, Copy)]
 pub struct Orders {
     between: &'static str,
-    behind: &'static str,
+    last: &'static str,
 }
 
 impl Orders {
@@ -17,26 +17,30 @@ impl Orders {
     pub const fn in_words() -> Orders {
         Orders {
             between: ", ",
-            behind: " or rank EXPRESSION",
+            last: " or ",
         }
     }
 
-    /// As a table has those that have a word: `levels|fifo|..`.
+    /// As a table has them: `levels|fifo|..`.
     const fn in_table() -> Orders {
         Orders {
             between: "|",
-            behind: "",
+            last: "|",
         }
     }
 }
 
 impl fmt::Display for Orders {
     fn fmt<W: fmt::Write>(&self, f: &mut fmt::Formatter<W>) -> fmt::Result {
-        for (place, order) in OrderName::BUILT_IN.iter().enumerate() {
-            let before = if place == 0 { "" } else { self.between };
+        for (place, order) in OrderName::ALL.iter().enumerate() {
+            let before = match place {
+                0 => "",
+                _ if place + 1 == OrderName::ALL.len() => self.last,
+                _ => self.between,
+            };
             write!(f, "{before}{order}")?;
         }
-        f.write_str(self.behind)
+        Ok(())
     }
 }
 
@@ -180,8 +184,7 @@ impl fmt::Display for InTable {
             LastWord::Either(one, other) => write!(f, "{words} {one}|{other}"),
             LastWord::OrderAndMaybe(word) => {
                 let orders = Orders::in_table();
-                write!(f, "{words} {orders} [{word}]\n")?;
-                write!(f, "{words} rank EXPRESSION [{word}]")
+                write!(f, "{words} {orders} [{word}]")
             }
             LastWord::Maybe(word) => write!(f, "{words} [{word}]"),
         }

@@ -4,22 +4,22 @@ ghost use Rattle.std.specs.Prelude.{◌≡◌, ◌∷◌, List, IsTrue, ◌↔�
 ghost use Rattle.std.specs.Bool.{MatchBool};
 ghost use Rattle.pc_script.specs.Grammar.{Field, AreInRange, Spells, words_of};
 ghost use Rattle.pc_script.specs.Inner.Readings.{IsReading, kinds_of};
-ghost use Rattle.pc_script.specs.Inner.Verbs.{SpellsNone, kinds, name_of};
+ghost use Rattle.pc_script.specs.Inner.Verbs.{kinds, name_of};
 ghost use Rattle.pc_script.specs.Inner.Taking.{words_left};
 ghost use Rattle.pc_script.specs.declared.grammar.Verb.{Verb};
 
 use crate::command::{Command, Read};
 use crate::fields::{
-    Arguments, Count, Failure, Index, Level, Mask, Processor, Processors, Queue, State, Target,
-    Thread,
+    Arguments, Count, Exactness, Failure, Index, Level, Mask, Order, Processor, Processors, Queue,
+    State, Target, Thread,
 };
-use crate::policy::{policy_trouble, read_policy};
 use crate::trouble::{
     Trouble, Wanted, field_and_word, five_fields, last_field, three_fields, two_fields,
 };
 use crate::version::Version;
 use crate::words::Words;
 use pc_calls::{AgentCall, EnvCall, Event, Limits};
+use pc_policy::PolicyName;
 
 /// The first word of a command.
 #[derive(Clone, Copy, Debug, PartialEq, Eq)]
@@ -95,15 +95,16 @@ fn verb_of(word: &[u8]) -> Option<Verb>
     }
 }
 
-/// Fields as the nested pairs that [`Arguments`] reads. A failure stands last.
+/// Fields as the nested pairs that [`Arguments`] reads. A failure and an exactness stand last.
 macro_rules! pairs {
     (Failure($last:pat)) => { Failure($last) };
+    (Exactness($last:pat)) => { Exactness($last) };
     ($first:pat) => { ($first, ()) };
     ($first:pat, $($others:tt)+) => { ($first, pairs!($($others)+)) };
 }
 
 /// Hands the table of commands to a macro, behind what is given: of each verb the fields that stand behind its word,
-/// and the command that they make. A policy is read by its whole text, so it has no row.
+/// and the command that they make.
 macro_rules! table {
     ($make:ident, $($given:expr),+) => {
         $make!($($given),+;
@@ -139,6 +140,7 @@ macro_rules! table {
             Show(Processor(cpu)) => Command::Read(Read::Show { cpu }),
             Same(Processor(cpu), Processor(other)) => Command::Read(Read::Same { cpu, other }),
             Complete(Processor(cpu), Thread(thread)) => Command::Read(Read::Complete { cpu, thread }),
+            Policy(Order(order), Exactness(exact)) => Command::Policy(PolicyName { order, exact }),
             Mend(Processor(cpu)) => Command::Mend { cpu }
         )
     };
@@ -155,16 +157,18 @@ macro_rules! read {
                 }
                 None => false,
             })+
-            Verb::Policy => read_policy($words, $place),
         }
     };
 }
 
-/// The first trouble with the words that are left behind a verb's, which should be these fields. A failure stands last.
-/// Each is one call: what matches in each other cost a proof grows faster than they do.
+/// The first trouble with the words that are left behind a verb's, which should be these fields. A failure and an
+/// exactness stand last. Each is one call: what matches in each other cost a proof grows faster than they do.
 macro_rules! first_trouble {
     ($verb:expr, $words:expr; $first:ident($value:pat), Failure($last:pat)) => {
         field_and_word::<$first>($verb, $words, b"fail", Wanted::Failure)
+    };
+    ($verb:expr, $words:expr; $first:ident($value:pat), Exactness($last:pat)) => {
+        field_and_word::<$first>($verb, $words, b"exact", Wanted::Exactness)
     };
     ($verb:expr, $words:expr; $last:ident($value:pat)) => {
         last_field::<$last>($verb, $words, 2)
@@ -185,7 +189,6 @@ macro_rules! troubles {
     ($verb:expr, $words:expr; $($name:ident($($fields:tt)+) => $command:expr),+) => {
         match $verb {
             $(Verb::$name => first_trouble!($verb, $words; $($fields)+),)+
-            Verb::Policy => policy_trouble($words),
         }
     };
 }
@@ -197,7 +200,7 @@ macro_rules! troubles {
 #[inline(always)]
 fn read_as(verb: Verb, words: &mut Words<'_>, place: &mut Command) -> bool
     ensures { MatchBool result (Spells (name_of verb ∷ words_left words.old) place.new)
-        (SpellsNone verb (words_left words.old)) }
+        ((any : List Field) → kinds_of any ≡ kinds verb → AreInRange any → words_left words.old ≡ words_of any → ⊥) }
 {
     table!(read, verb, words, place)
 }

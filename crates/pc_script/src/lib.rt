@@ -27,7 +27,6 @@ mod observer;
 mod outcome;
 mod output;
 mod piece;
-mod policy;
 mod response;
 mod run;
 mod session;

@@ -79,10 +79,10 @@ fn rule(
     alloc: Global,
     profile: Profile,
     enclave: &mut Enclave,
-    policy: &PolicyName,
+    policy: PolicyName,
     response: &mut Response,
 ) -> Result<(), AllocError>
-    ensures ok { OnOk result (Answers (Command.Policy policy.now) enclave.old enclave.new response.new) }
+    ensures ok { OnOk result (Answers (Command.Policy policy) enclave.old enclave.new response.new) }
     ensures no_memory { OnErr result (IsTrue enclave.old.is_untouched) }
     ensures kept { OnErr result ((response.new ≡ response.old) × (enclave.new ≡ enclave.old)) }
 {
@@ -91,11 +91,11 @@ fn rule(
         return Ok(());
     }
     let limits = enclave.world.kernel().limits();
-    let policies = AgentPolicy::for_each(alloc, *policy, limits.cpus)?;
+    let policies = AgentPolicy::for_each(alloc, policy, limits.cpus)?;
     match World::new_by(alloc, profile, limits, policies.as_slice()) {
         Ok(world) => {
             enclave.world = world;
-            *response = Response::Ruled(*policy);
+            *response = Response::Ruled(policy);
             Ok(())
         }
         // The limits were within their ranges when the old world was opened, so memory is wanting.
@@ -187,7 +187,7 @@ fn act(
             step(&mut enclave.world, event, response)?;
         }
         Command::Read(read) => tell(alloc, &enclave.world, *read, response)?,
-        Command::Policy(policy) => rule(alloc, profile, enclave, policy, response)?,
+        Command::Policy(policy) => rule(alloc, profile, enclave, *policy, response)?,
         Command::Mend { cpu } => mend(enclave, *cpu, response)?,
     }
     Ok(())

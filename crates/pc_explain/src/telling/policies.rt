@@ -6,7 +6,7 @@ use crate::telling::{CommandContext, refusals};
 use crate::words::Count;
 use pc_calls::{Event, Refusal, Reply};
 use pc_messages::{Cpu, Reported, Tid};
-use pc_policy::{OrderName, Policy, PolicyName};
+use pc_policy::{OrderName, PolicyName};
 use std::fmt::{self, Write};
 
 /// All agents go by a policy.
@@ -17,8 +17,6 @@ pub(super) fn ruled(text: &mut Sentences, policy: PolicyName) -> fmt::Result {
         OrderName::LeastRan => "the thread that ran for the fewest ticks runs first",
         OrderName::LevelsThenLeastRan =>
             "the highest level runs first, and within a level the thread that ran for the fewest ticks",
-        OrderName::Rank(_) =>
-            "the thread of the least rank runs first, and where the expression gives none the thread is left out",
     };
     writeln!(
         text,
@@ -52,7 +50,7 @@ pub(super) fn chosen(
     scene: &CommandContext<'_>,
 ) -> fmt::Result {
     let policy = scene.policy;
-    if policy.is_usual() {
+    if policy == PolicyName::USUAL {
         return Ok(());
     }
     match (event, reply) {
@@ -84,7 +82,7 @@ fn rank(
     scene: &CommandContext<'_>,
 ) -> fmt::Result {
     match reported(cpu, thread, scene) {
-        Some(reported) => rank_of(text, &policy.order, cpu, thread, &reported),
+        Some(reported) => rank_of(text, policy.order, cpu, &reported),
         None => Ok(()),
     }
 }
@@ -95,17 +93,11 @@ fn reported(cpu: Cpu, thread: Tid, scene: &CommandContext<'_>) -> Option<Reporte
 }
 
 /// The rank of a thread of which this is known.
-fn rank_of(
-    text: &mut Sentences,
-    order: &OrderName,
-    cpu: Cpu,
-    thread: Tid,
-    reported: &Reported,
-) -> fmt::Result {
+fn rank_of(text: &mut Sentences, order: OrderName, cpu: Cpu, reported: &Reported) -> fmt::Result {
     let agent = cpu.index();
     let level = reported.level.get();
     let ticks = Count(reported.ran, "tick");
-    match *order {
+    match order {
         OrderName::Levels => writeln!(
             text,
             "By what agent {agent} knows its rank is that of level {level}."
@@ -122,10 +114,6 @@ fn rank_of(
             text,
             "By what agent {agent} knows its rank is that of level {level}, and of {ticks} within it."
         ),
-        OrderName::Rank(_) => match order.rank(cpu, thread, reported) {
-            Some(rank) => writeln!(text, "By what agent {agent} knows its rank is {rank}."),
-            None => Ok(()),
-        },
     }
 }
 
