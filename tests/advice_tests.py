@@ -18,6 +18,7 @@ import rig
 from kernel import ENVIRONMENT, LEAVES, ORDERS, Talk, World, last_lines
 from rig import good
 from scripts import Rough, lines_of, mended
+from tables import EXACTNESS, drawn_rank
 
 DRAWN, SEARCHED, PAIRED = 400, 200, 6
 ADVICE = tomllib.loads((rig.ROOT / "tests/advice.toml").read_text())
@@ -94,7 +95,8 @@ def drawn_script(place: int) -> str:
         ]
 
     lines = [f"enclave {cpus} {limits}", *lines_of(chance, rough, chance.choice([2, 4, 8, 12]), further)]
-    given = [None, None, None, *POLICIES][place % (3 + len(POLICIES))]
+    by_rank = drawn_rank(chance, leaves_out=True) + chance.choice(EXACTNESS)
+    given = [None, None, None, by_rank, by_rank, *POLICIES][place % (5 + len(POLICIES))]
     if given:
         lines[:1] = ["version 3", lines[0], f"policy {given}"]
     return "\n".join(lines) + "\n"

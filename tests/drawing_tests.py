@@ -68,6 +68,13 @@ def test_bytes_of_a_script_cannot_become_markup() -> None:
         same(draw(f"{ENCLAVE}wake t0\n{line}\n", 1).title, "commands 2, refused 1, fault line 3")
 
 
+def test_a_policy_cannot_become_markup() -> None:
+    policy = "rank if (cpu < 4) and (level >= 2) then ran else none exact"
+    picture = draw(f"version 3\n{ENCLAVE}policy {policy}\n")
+    title = f"commands 2, refused 0, policy {policy}"
+    same((picture.title, picture.texts[0]), (title, title.translate(str.maketrans("<>", "\u2039\u203a"))))
+
+
 def test_a_fault_ends_the_picture() -> None:
     status, picture, errors = outcome(rig.ask("draw", given=ENCLAVE + "tick 0\ntick\ntick 0\n"))
     same((status, errors), (1, ENDS_THERE + "pc-sim: line 3 of the standard input is no command\n"))

@@ -114,10 +114,10 @@ class Writer:
         return text + " " * self.chance.choice([0, 0, 0, 1, 2])
 
 
-def drawn(chance: random.Random) -> tuple[str, Expression]:
-    """A text within the limits, and the expression that it is of."""
+def drawn(chance: random.Random, sizes: tuple[int, ...] = (1, 2, 4, 8, 12, 20, 32, 48, 64)) -> tuple[str, Expression]:
+    """A text within the limits, and the expression that it is of: of about one of these numbers of nodes."""
     while True:
-        tree = Drawer(chance).expression(chance.choice([1, 2, 4, 8, 12, 20, 32, 48, 64]))
+        tree = Drawer(chance).expression(chance.choice(sizes))
         text = Writer(chance, chance.choice([0, 0, 0.1, 0.3])).text(tree)
         try:
             if read(text.encode()) == tree:

@@ -24,7 +24,7 @@ import rig
 from kernel import ORDERS, WORD32, answered, ticks_of
 from reference.lab import STEALS, TIMES, Run, Variant, csv_of, load_of, replies_of, runs_of, script_of, table_of, unknown_keys
 from rig import ROOT, good, outcome, same
-from tables import drawn_load, drawn_threads, thread, variant
+from tables import drawn_load, drawn_rank, drawn_threads, thread, variant
 
 ROWS, BAD = ROOT / "examples/lab/worked", ROOT / "tests/lab_faults"
 LOADS, WIDE, MISSPELT = 60, 100, 200
@@ -224,6 +224,13 @@ def test_variants_of_the_greatest_length() -> None:
         same(outcome(lab(load, "--variants", "long.toml", folder=long.parent)), (1, "", fault))
 
 
+def stall_of(runs: list[Run], variants: pathlib.Path | None = None) -> str:
+    """What standard error has of the first run that stalled, whose variant is of this file, if there is one."""
+    where = f'"{variants}": ' if variants else ""
+    stalls = (f"pc-sim: {where}variant {place}: thread {run.stalled} waits, and no agent will run it\n" for place, run in enumerate(runs) if run.end == "stalled")
+    return next(stalls, "")
+
+
 def test_drawn_loads() -> None:
     """Tables, with the time of each CPU, CSV, and the script of a variant, by the load's variants and by others."""
     chance = random.Random("program")
@@ -232,9 +239,9 @@ def test_drawn_loads() -> None:
         runs = runs_of(load, variants)
         with rig.file(variants or "") as file:
             words = ["--variants", file] if variants else []
-            same(told(load, *words), table_of(runs), load)
-            same(told(load, *words, "--per-cpu"), table_of(runs, True), load)
-            same(told(load, *words, "--per-cpu", "--csv"), csv_of(runs, True), load)
+            stall = stall_of(runs, file if variants else None)
+            for flags, wanted in (((), table_of(runs)), (("--per-cpu",), table_of(runs, True)), (("--per-cpu", "--csv"), csv_of(runs, True))):
+                same(outcome(lab("-", *words, *flags, given=load)), (0, wanted, stall), load)
             same(told(load, *words, "--script", "v0"), script_of(runs[0]), load)
 
 
@@ -245,7 +252,9 @@ def test_the_program_answers_as_runs_expect() -> None:
         runs = runs_of(text)
         for run in runs:
             same(rig.replay(script_of(run)), replies_of(run), run.variant, text)
-        for rows in (csv_of(runs, True), told(text, "--per-cpu", "--csv")):
+        tried = lab("-", "--per-cpu", "--csv", given=text)
+        same((tried.returncode, tried.stderr), (0, stall_of(runs)), text)
+        for rows in (csv_of(runs, True), tried.stdout):
             balances(rows, text)
 
 
@@ -263,12 +272,13 @@ def balances(told: str, text: str) -> None:
 
 
 def wide_load(chance: random.Random) -> str:
-    """Up to 60 threads on 1 to 8 CPUs. Each order with each steal is tried twice: where all hear of each other at once
+    """Up to 60 threads on 1 to 8 CPUs. Each of four orders with each steal is tried twice: where all hear of each other at once
     and a turn takes no time, and where that is drawn."""
     cpus = chance.randint(1, 8)
     text = f"cpus = {cpus}\n" + (f"until = {chance.randint(1, 200)}\n" if chance.random() < 0.2 else "")
     text += drawn_threads(chance, cpus, chance.randint(0, chance.choice([8, 60])))
-    for place, (order, steals, late) in enumerate(itertools.product(ORDERS, STEALS, (False, True))):
+    orders = chance.sample([*ORDERS, drawn_rank(chance), drawn_rank(chance)], 4)
+    for place, (order, steals, late) in enumerate(itertools.product(orders, STEALS, (False, True))):
         times = {"delay": chance.choice([0, 1, 5, 12]), "cost": chance.choice([0, 0, 1, 3])} if late else {}
         text += variant(
             f"v{place}", order=order, steals=steals, quantum=chance.choice([0, 0, 1, 5, 10]), urgent=chance.choice([True, False]),
@@ -389,6 +399,10 @@ def test_a_thread_runs_waits_and_sleeps_from_its_start_to_its_death():
         if tried.answered and tried.row["end"] == "done":
             same(waits, tried.count("wait_sum"), f"{tried.variant}\n{tried.text}")
     assert min(counted[it] for it in ("lives", "deaths", "slept", "waited", "in turns")) > 100
+
+
+def test_no_run_stalls_whose_order_leaves_nobody_out():
+    same({tried.row["end"] for tried in all_tried()}, {"done", "until"})
 
 
 def test_where_turns_take_no_time_only_steals_are_stale():

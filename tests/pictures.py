@@ -47,10 +47,10 @@ Words = NamedTuple("Words", [("x", int), ("y", int), ("text", str)])
 
 
 class Picture:
-    """A picture, taken apart. Whatever is drawn, it is ASCII, has a size, and every shape says what it is."""
+    """A picture, taken apart. Whatever is drawn, it is ASCII, but for words of a policy, has a size, and every shape says what it is."""
 
     def __init__(self, text: str) -> None:
-        assert text.isascii()
+        assert {it for it in text if not it.isascii()} <= {*"\u2039\u203a"}
         root = ElementTree.fromstring(text)
         same((root.tag, root[0].tag), (SVG + "svg", SVG + "title"))
         self.width, self.height = int(root.get("width")), int(root.get("height"))

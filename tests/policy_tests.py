@@ -1,18 +1,28 @@
 #!/usr/bin/env python3
 """Tests picks and steals under each policy against the model of tools/kernel.py.
 
-Scripts of version 3 are drawn under each policy, with exact steals and without: 300 each, or NUMBER, and 10,000 with --all. The model
-tells each answer of a script, and the program has to agree on each line. Picks and steals have to be common, and the order has to matter.
+Scripts of version 3 are drawn under each policy, with exact steals and without: 300 each, or NUMBER, and 10,000 with --all; of
+policies by expressions each script has its own. The model tells each answer of a script, and the program has to agree on each
+line. Picks and steals have to be common, and the order has to matter. The numbers of docs/POLICIES.md are those of the lab.
 """
+import pathlib
 import random
+import re
+import sys
 from collections import Counter
 from collections.abc import Callable
 from functools import partial
 
 import rig
+from drawn_ranks import drawn
 from kernel import LEAVES, ORDERS, Talk, World
-from rig import same
+from ranks import policy_of
+from reference.lab import STEALS
+from rig import good, same
+from tables import variant
 
+EXPRESSIONS = "expressions"
+SIZES = (2, 4, 8, 12)
 MOST_THREADS = 10
 TICKS = [0, 1, 2, 3, 5, 8, 13, 4_294_967_295]
 Deed = Callable[[int, int], None]
@@ -23,6 +33,9 @@ class Drawn:
 
     def __init__(self, place: int, policy: str) -> None:
         self.chance = random.Random(f"policies {place} {policy}")
+        if policy.startswith(EXPRESSIONS):
+            text, _ = drawn(self.chance, SIZES)
+            policy = f"rank {text}{policy.removeprefix(EXPRESSIONS)}"
         self.talk, self.counts, self.lines, self.answers = Talk(), Counter[str](), list[str](), list[str]()
         cpus = self.chance.choice([1, 2, 2, 3])
         self.say("version 3")
@@ -148,6 +161,32 @@ def counts_of(policy: str, place: int) -> Counter[str]:
     return drawn.counts
 
 
+def recorded_loads(folder: pathlib.Path) -> list[pathlib.Path]:
+    """The loads of docs/POLICIES.md, in its order."""
+    loads = [rig.ROOT / "examples/lab/database.toml"]
+    for name in ("python-pool", "shell-pipelines"):
+        loads.append(folder / f"{name}.toml")
+        text = rig.ROOT / f"examples/recordings/{name}.txt"
+        made = rig.run(sys.executable, rig.ROOT / "tools/from-perf-sched", text, "-o", folder / "script", "--load", loads[-1])
+        same(made.returncode, 0, made.stderr)
+    return loads
+
+
+def the_page_tells_what_policies_come_to() -> None:
+    """The waits of which nine of ten are no longer, on each load under each policy of docs/POLICIES.md."""
+    lines = (rig.ROOT / "docs/POLICIES.md").read_text().splitlines()
+    rows = [[cell.strip(" `") for cell in line.strip("|").split("|")] for line in lines if line.startswith("| `rank")]
+    texts = ""
+    for place, (text, *_) in enumerate(rows):
+        policy = policy_of(text.encode())
+        texts += variant(f"v{place}", order=policy.order, steals=STEALS[policy.exact], quantum=1000, urgent=True, cost=3)
+    with rig.folder() as folder:
+        (variants := folder / "variants.toml").write_text(texts)
+        tables = [good(rig.ask("lab", load, "--variants", variants)) for load in recorded_loads(folder)]
+    found = [re.findall(r"\d+", re.search("^woken p90(.*)", table, re.M)[1]) for table in tables]
+    same([row[2:] for row in rows], [[*row] for row in zip(*found, strict=True)])
+
+
 def answers_are_the_models(policy: str) -> None:
     scripts = rig.options.scripts
     counts = sum(rig.in_threads(partial(counts_of, policy), range(scripts)), Counter())
@@ -157,6 +196,7 @@ def answers_are_the_models(policy: str) -> None:
 
 
 if __name__ == "__main__":
-    every = [order + exact for order in ORDERS for exact in ("", " exact")]
+    every = [order + exact for order in [*ORDERS, EXPRESSIONS] for exact in ("", " exact")]
     tests = [(policy, partial(answers_are_the_models, policy)) for policy in every]
+    tests.append(("page", the_page_tells_what_policies_come_to))
     rig.main(__doc__, tests, rig.add_scripts)

@@ -60,7 +60,7 @@ SEEDS = {
     "agents-start-again-unasked": (29, "there are 1 rouses ahead of it, and not 0."),
     "an-act-consumes-nothing": (2, "does not stand in a turn of agent 0 where it belongs."),
     "an-agent-goes-by-the-usual-policy": (6, "and first in agent 0's run list is t3."),
-    "an-agent-picks-under-the-count-of-now": (49, "`commit 0 t0 8`, and agent 0 has not read all of its queue."),
+    "an-agent-picks-under-the-count-of-now": (57, "`commit 0 t0 8`, and agent 0 has not read all of its queue."),
     "an-agent-waits-on-behind-a-note": (0, "and not all agents that may have it started again."),
     "an-answer-goes-to-who-gives-it": (7, "notes, and 3 to 4 were sent to it."),
     "another-answer-is-listed": (0, "and agent 0 has not read all of its queue."),

@@ -25,7 +25,7 @@ from rank_in_c import function_of, is_name
 from ranks import LIMITS, LONGEST, WANTED, Expression, Facts, Fault, policy_of, ranking_of, read
 from reference import lab
 from rig import ROOT, good, needs, outcome, same
-from tables import drawn_threads, variant
+from tables import drawn_threads, thread, variant
 
 TOOL = ROOT / "tools/policy-to-c"
 NAME = "drawn_ranks"
@@ -287,6 +287,23 @@ def test_the_lab_of_python_ranks_by_expressions() -> None:
             runs = [lab.runs_of(load + it)[0] for it in told]
             same(runs[0].said, runs[1].said, load, *told)
             same(lab.head_of(runs[1])[-1], f"policy {policy_of(order.encode()).order}{' exact' * (steals == 'exact')}")
+
+
+@rig.each({policy: (policy, *row) for policy, row in {
+    "rank ran": (0, None, 8, 0),
+    "rank none": (0, 0, 0, 0),
+    "rank if thread == 0 then none else 0": (0, 0, 5, 0),
+    "rank if thread == 0 then ran / 2 else 1": (1, None, 8, 2),
+    "rank if ran < 2 then 0 else none": (1, 0, 7, 3),
+    "rank 9 - ran": (1, None, 8, 0),
+}.items()})
+def test_the_lab_of_python_stalls(order: str, quantum: int, stalled: int | None, makespan: int, preempts: int) -> None:
+    """By hand, of threads of 3 and 5 ticks on one CPU: at which thread, when the run ends, and how often who runs is
+    preempted. Those of the crate have the same rows."""
+    load = "cpus = 1\n" + "".join(thread(0, 1, f"die {ticks}") for ticks in (3, 5))
+    run, = lab.runs_of(load + variant("one", order=order, quantum=quantum))
+    same((run.end, run.stalled), ("done", None) if stalled is None else ("stalled", stalled))
+    same((run.tick, run.counts["preempts"]), (makespan, preempts))
 
 
 # C

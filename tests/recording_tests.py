@@ -290,7 +290,7 @@ def test_the_document_tells_what_is_refused() -> None:
         same(refusals(text_of(made.script), path.with_suffix(".output").read_text()), made.refused, path.name)
 
 
-@rig.each({"TUTORIAL": ("TUTORIAL", 10), "LAB": ("LAB", 0)})
+@rig.each({"TUTORIAL": ("TUTORIAL", 10), "LAB": ("LAB", 0), "POLICIES": ("POLICIES", 2)})
 def test_a_page_prints_what_it_says(page: str, least: int) -> None:
     """Each command behind a dollar sign is typed, in order."""
     steps = re.findall(r"^    \$ (.*)\n((?:    (?!\$ ).*\n)*)", (ROOT / f"docs/{page}.md").read_text(), re.M)

@@ -15,7 +15,7 @@ import time
 import rig
 from kernel import answered, told_of
 from rig import good, matches, outcome, same
-from tables import POLICIES, drawn_run, drawn_settings, drawn_steps, restart, thread
+from tables import POLICIES, drawn_policy, drawn_run, drawn_settings, drawn_steps, restart, thread
 
 sys.path.append(str(rig.ROOT / "tests/reference"))
 from judge import faults_of  # noqa: E402
@@ -74,7 +74,7 @@ def test_nothing_is_wrong_with_runs_by_seeds() -> None:
 def test_nothing_is_wrong_with_runs_of_many_agents() -> None:
     rng = random.Random(12)
     for seed in range(DRAWN):
-        text, policy = drawn_settings(rng), rng.choice(POLICIES)
+        text, policy = drawn_settings(rng), drawn_policy(rng)
         same(faults_of(read(text), policy, told_by(text, policy, "--seed", seed)), [], seed, policy, text)
 
 
@@ -87,7 +87,7 @@ def test_a_run_by_a_seed_is_that_of_the_model() -> None:
 def test_nothing_is_wrong_with_runs_in_threads() -> None:
     """And the program answers each line of the script as the model of the kernel does."""
     rng = random.Random(31)
-    for _, policy in zip(range(DRAWN), itertools.cycle(POLICIES)):
+    for policy in [*POLICIES, *(drawn_policy(rng) for _ in range(DRAWN))]:
         text = drawn_settings(rng)
         told = told_by(text, policy)
         same(faults_of(read(text), policy, told, by_seed=False), [], text, policy)
@@ -190,7 +190,7 @@ def test_a_tally_is_of_what_each_seed_comes_to() -> None:
 
 def test_runs_by_seeds_without_restarts_are_all_reported() -> None:
     rng = random.Random(71)
-    for policy in POLICIES:
+    for policy in [*POLICIES, *(drawn_policy(rng) for _ in POLICIES)]:
         text = drawn_settings(rng).partition("[[restart]]")[0]
         told = good(rig.ask("run", "--seed", rng.randrange(1 << 63), "--runs", 50, "--policy", policy, given=text), text)
         same(told, "runs 50\nreported 50\n", text)

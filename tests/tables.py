@@ -3,9 +3,11 @@ import json
 import random
 from collections.abc import Sequence
 
+from drawn_ranks import drawn
 from kernel import LEAVES, ORDERS
 
-POLICIES = [order + rest for order in ORDERS for rest in ("", " exact")]
+EXACTNESS = ("", " exact")
+POLICIES = [order + rest for order in ORDERS for rest in EXACTNESS]
 STAYS_ALIVE = [leave for leave in LEAVES if leave != "die"]
 
 
@@ -23,6 +25,20 @@ def restart(cpu: object, turn: object) -> str:
 
 def variant(name: str, **keys: object) -> str:
     return table("variant", name=name, **keys)
+
+
+def drawn_rank(chance: random.Random, leaves_out: bool = False) -> str:
+    """An order by an expression. Only one with a `none` may leave threads out."""
+    while True:
+        text, _ = drawn(chance, (2, 4, 8, 12))
+        if leaves_out or "none" not in text:
+            return f"rank {text.strip()}"
+
+
+def drawn_policy(chance: random.Random) -> str:
+    """A policy that leaves nobody out, half of them by an expression."""
+    order = drawn_rank(chance) if chance.random() < 0.5 else chance.choice(ORDERS)
+    return order + chance.choice(EXACTNESS)
 
 
 def drawn_steps(chance: random.Random, counts: Sequence[int], ticks: Sequence[int], last: Sequence[int] | None = None) -> list[str]:
@@ -54,7 +70,7 @@ def drawn_run(seed: int) -> tuple[str, str]:
     text = drawn_plans(chance, cpus, chance.randint(1, 4), 4)
     for _ in range(chance.choice([0, 0, 1, 1, 2, 4]) if cpus > 1 else 0):
         text += restart(chance.randrange(cpus), chance.randint(1, 4))
-    return text, chance.choice(POLICIES)
+    return text, drawn_policy(chance)
 
 
 def drawn_threads(chance: random.Random, cpus: int, count: int) -> str:
@@ -76,7 +92,7 @@ def drawn_load(chance: random.Random, most: int = 14) -> str:
     text = f"cpus = {cpus}\n" + (f"until = {chance.randint(1, 200)}\n" if chance.random() < 0.2 else "")
     text += drawn_threads(chance, cpus, chance.randint(0, most))
     every: dict[str, list[object]] = {
-        "order": [*ORDERS], "steals": ["least", "exact"], "quantum": [0, 0, 1, 5, 10], "group": [1, 2, 3, 64, 64], "delay": [0, 0, 1, 5, 12],
+        "order": [*ORDERS, drawn_rank(chance), drawn_rank(chance), drawn_rank(chance, True)], "steals": ["least", "exact"], "quantum": [0, 0, 1, 5, 10], "group": [1, 2, 3, 64, 64], "delay": [0, 0, 1, 5, 12],
         "cost": [0, 0, 1, 3], "urgent": [True, False], "keep": [True, False],
     }
     for place in range(chance.randint(1, 4)):

@@ -8,7 +8,7 @@ OUT_OF_MEMORY = b"pc-sim: out of memory\n"
 # So many of the last growths are tried, whatever the steps.
 LAST = 8
 # Of a stack: a quarter of it is what the reader of a text takes, and the usual bound is 32 times as much.
-STACK = 2**18
+STACK = 5 * 2**16
 # More than an example needs.
 MOST_MEMORY = 12 * 2**20
 

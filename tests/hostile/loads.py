@@ -10,7 +10,8 @@ from settings import MEMORY, spoilt, written
 from worst import load_text
 
 WORKED = ROOT / "examples/lab/worked"
-TABLE = re.compile(rb"variant( +[a-z0-9.-]+)+\nend( +(done|until|NumbersSpent))+\n([a-zA-Z0-9 -]+\n)+")
+TABLE = re.compile(rb"variant( +[a-z0-9.-]+)+\nend( +(done|until|NumbersSpent|stalled))+\n([a-zA-Z0-9 -]+\n)+")
+STALL = re.compile(rb"(pc-sim: variant \d+: thread \d+ waits, and no agent will run it\n)?")
 FAULT = re.compile(rb"pc-sim: (cannot read|lab UnknownKey [ -~]*|lab [A-Z][A-Za-z]+( [a-z0-9.]+){0,2})\n")
 # Loads of worst.py, with which a run ends after some seconds: how it ends, and when.
 WORST = {"quanta 2 1": (b"NumbersSpent", b"1999999"), "late 1000 200": (b"until", b"200")}
@@ -37,11 +38,11 @@ def drawn_load(place):
 
 
 def fault_of_drawn(machine, place):
-    """What is wrong with the table of a drawn load: a whole one is told, or, where it was spoilt, a fault and nothing else."""
+    """What is wrong with the table of a drawn load: a whole one is told, and perhaps a stall, or, where it was spoilt, a fault and nothing else."""
     text, is_spoilt = drawn_load(place)
     with rig.file(text) as file:
         run = machine.run(Subject("", ["lab", str(file)]), seconds=SECONDS, memory=MEMORY)
-        is_table = run.status == 0 and not run.err and TABLE.fullmatch(run.out)
+        is_table = run.status == 0 and STALL.fullmatch(run.err) and TABLE.fullmatch(run.out)
         is_fault = is_spoilt and run.status == 1 and not run.out and FAULT.fullmatch(run.err)
         return None if is_table or is_fault else told(run)
 

@@ -84,7 +84,7 @@ pub fn advise(world: &World, policy: PolicyName, line: &Deed) -> Advice
     let mut plan = Plan::new();
     let mut chosen = false;
     while !plan.is_full() {
-        let ahead = Ahead::new(world, policy, &plan);
+        let ahead = Ahead::new(world, &policy, &plan);
         match next_move(&ahead, &line, &mut chosen) {
             Move::Line => return Advice::Steps(plan.with(ahead.step_of(&line))),
             Move::Deed(goal) => plan = plan.with(ahead.step_of(&goal)),

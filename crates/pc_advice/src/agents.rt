@@ -320,19 +320,19 @@ impl Ahead<'_> {
 }
 
 /// Whether the run list of the CPU's agent has a thread that would be committed, once the steps are done.
-fn lists_runnable(world: &World, policy: PolicyName, plan: &Plan, cpu: Cpu) -> bool {
+fn lists_runnable(world: &World, policy: &PolicyName, plan: &Plan, cpu: Cpu) -> bool {
     Ahead::new(world, policy, plan).lists_runnable(cpu)
 }
 
 /// Whether a steal of the CPU's agent lacks nothing, once the steps are done.
-fn steals(world: &World, policy: PolicyName, plan: &Plan, cpu: Cpu) -> bool {
+fn steals(world: &World, policy: &PolicyName, plan: &Plan, cpu: Cpu) -> bool {
     Ahead::new(world, policy, plan).steals(cpu)
 }
 
 /// How the agent comes to try a thread, once the steps are done, where it is in its run list then.
 fn way_of_listed(
     world: &World,
-    policy: PolicyName,
+    policy: &PolicyName,
     plan: &Plan,
     cpu: Cpu,
     thread: Tid,

@@ -39,7 +39,7 @@ const MOST_ITEMS: usize = 256;
 pub(crate) struct Ahead<'a> {
     pub(crate) world: &'a World,
     /// The policy that all agents go by.
-    pub(crate) policy: PolicyName,
+    pub(crate) policy: &'a PolicyName,
     pub(crate) plan: &'a Plan,
 }
 
@@ -93,7 +93,7 @@ fn last_place(items: &[Item], thread: Tid, from: usize) -> Option<usize> {
 
 impl<'a> Ahead<'a> {
     /// The world, whose agents go by the policy, once the steps of the plan are done.
-    pub(crate) fn new(world: &'a World, policy: PolicyName, plan: &'a Plan) -> Ahead<'a>
+    pub(crate) fn new(world: &'a World, policy: &'a PolicyName, plan: &'a Plan) -> Ahead<'a>
         ensures { (result.world.now ≡ world.now) × (result.plan.now ≡ plan.now) }
     {
         Ahead {

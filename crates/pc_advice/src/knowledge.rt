@@ -39,7 +39,7 @@ impl Known {
     }
 
     /// The rank of the thread on the CPU: the least comes first.
-    fn rank(&self, order: OrderName, cpu: Cpu, thread: Tid) -> Option<u64> {
+    fn rank(&self, order: &OrderName, cpu: Cpu, thread: Tid) -> Option<u64> {
         order.rank(cpu, thread, &self.reported?)
     }
 
@@ -272,6 +272,11 @@ impl Ahead<'_> {
         }
     }
 
+    /// Whether the agent of the CPU lists a thread of which it knows this, where it makes its run list anew.
+    fn would_list(&self, known: &Known, cpu: Cpu, thread: Tid) -> bool {
+        known.runs_on(cpu) && known.rank(&self.policy.order, cpu, thread).is_some()
+    }
+
     /// Whether the thread is in the run list of the CPU's agent.
     pub(crate) fn is_listed(&self, cpu: Cpu, thread: Tid) -> bool {
         let mut listed = match self.world.agent(cpu) {
@@ -282,7 +287,7 @@ impl Ahead<'_> {
             if step.is_publish(cpu) {
                 let after = place.saturating_add(1);
                 let touched = listed || self.is_queued_at(cpu, thread, place);
-                listed = touched && self.known(cpu, thread, after).runs_on(cpu);
+                listed = touched && self.would_list(&self.known(cpu, thread, after), cpu, thread);
             } else if step.is_steal(cpu) && step.is_of(thread) {
                 listed = true;
             }
@@ -319,8 +324,8 @@ impl Ahead<'_> {
         first
     }
 
-    /// The rank of a thread that a steal of the CPU's agent may try; none of another. An exact steal may try it only
-    /// where its agent knows all of its messages.
+    /// How a thread stands that a steal of the CPU's agent may try; none of another. An exact steal may try it only
+    /// where its agent knows all of its messages, and it stands by its rank. For another steal all stand alike.
     fn rank_to_steal(&self, cpu: Cpu, thread: Tid) -> Option<u64> {
         let standing = self.standing(thread)?;
         if standing.on.is_some() {
@@ -330,10 +335,13 @@ impl Ahead<'_> {
         if !known.runs_on(cpu) || self.is_listed(cpu, thread) {
             return None;
         }
-        if self.policy.exact && known.upto < standing.number {
+        if !self.policy.exact {
+            return Some(0);
+        }
+        if known.upto < standing.number {
             return None;
         }
-        known.rank(self.policy.order, cpu, thread)
+        known.rank(&self.policy.order, cpu, thread)
     }
 
     /// By which deed the agent learns a message that it does not know, or what leads there.

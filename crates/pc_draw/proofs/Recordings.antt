@@ -18,7 +18,7 @@ use Rattle.pc_script.specs.declared.version.Version.TheVariants.{One, Two, Three
 use Rattle.pc_session.specs.Session.{Session, IsRun, IsSession, none, one_more}
 use Rattle.pc_draw.specs.Inner.Recorded.{Kept, Records, kept, is_answer, is_refusal, end_by, policy_told}
 use Rattle.pc_draw.specs.Inner.Told.{count_both, end_both, policy_both}
-use Rattle.pc_draw.specs.Pictures.{IsPictureOf, policy_after, policy_among, policy_by, refuses, refused_among, script_title}
+use Rattle.pc_draw.specs.Pictures.{IsPictureOf, policy_after, policy_among, policy_by, refuses, refused_among, script_title, xml_text}
 
 -- ---- one notice
 
@@ -135,7 +135,7 @@ each_answered (e, run) = one_each run
 
 -- the title of what was kept
 abbrev title_of : Kept → List ℕ
-title_of so_far = script_title so_far.commands so_far.refused so_far.policy so_far.outcome
+title_of so_far = xml_text (script_title so_far.commands so_far.refused so_far.policy so_far.outcome)
 
 -- nothing was kept
 abbrev nothing : Kept
@@ -160,10 +160,10 @@ drawn_of text outcome all before after version responses runs recorded drawn =
         height = drawn.height;
         marks = drawn.marks;
         are_marks = drawn.are_marks;
-        text = ap (λ n. picture_text drawn.width drawn.height (script_title n all.refused all.policy all.outcome) drawn.marks) commands
-            ∙ ap (λ n. picture_text drawn.width drawn.height (script_title (length runs.commands) n all.policy all.outcome) drawn.marks) refusals
-            ∙ ap (λ p. picture_text drawn.width drawn.height (script_title (length runs.commands) (refused_among responses) p all.outcome) drawn.marks) policy
-            ∙ ap (λ o. picture_text drawn.width drawn.height (script_title (length runs.commands) (refused_among responses) (policy_among responses) o) drawn.marks) end';
+        text = ap (λ n. picture_text drawn.width drawn.height (xml_text (script_title n all.refused all.policy all.outcome)) drawn.marks) commands
+            ∙ ap (λ n. picture_text drawn.width drawn.height (xml_text (script_title (length runs.commands) n all.policy all.outcome)) drawn.marks) refusals
+            ∙ ap (λ p. picture_text drawn.width drawn.height (xml_text (script_title (length runs.commands) (refused_among responses) p all.outcome)) drawn.marks) policy
+            ∙ ap (λ o. picture_text drawn.width drawn.height (xml_text (script_title (length runs.commands) (refused_among responses) (policy_among responses) o)) drawn.marks) end';
       },
       drawn.written,
     )

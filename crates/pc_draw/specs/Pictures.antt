@@ -1,6 +1,6 @@
 -- The picture of a script's run.
 use Rattle.std.specs.Prelude.{◌≡◌, ℕ, Bool, true, false, List, [], ◌∷◌, ◌++◌, Option, Some, None, length, count_by}
-use Rattle.std.specs.Prelude.{codes, decimal}
+use Rattle.std.specs.Prelude.{codes, decimal, flat_map, ◌==◌, if◌then◌else◌}
 use Rattle.pc_calls.specs.declared.event.Reply.TheVariants as reply
 use Rattle.pc_calls.specs.declared.limits.Profile.{Profile}
 use Rattle.pc_pen.specs.Pictures.{AreMarks, picture_text}
@@ -52,6 +52,17 @@ abbrev pub given_text : Option PolicyName → List ℕ
 given_text None = []
 given_text (Some policy) = codes ", policy " ++ policy_text policy
 
+-- a byte of a text as XML has it: what would be markup is told by its name
+abbrev pub xml_byte : ℕ → List ℕ
+xml_byte byte =
+    if byte == 38 then codes "&amp;"
+    else if byte == 60 then codes "&lt;"
+    else if byte == 62 then codes "&gt;" else byte ∷ []
+
+-- a text as XML has it
+abbrev pub xml_text : List ℕ → List ℕ
+xml_text text = flat_map xml_byte text
+
 -- `commands N, refused M`, the policy, and the line that is a fault
 abbrev pub script_title : ℕ → ℕ → Option PolicyName → Outcome → List ℕ
 script_title commands refused policy outcome =
@@ -71,4 +82,4 @@ pub record IsPictureOf (IsRun : Profile → List Command → List Response → T
   pub are_marks : AreMarks marks
   pub text : written
       ≡ picture_text width height
-      (script_title (length runs.commands) (refused_among responses) (policy_among responses) outcome) marks
+      (xml_text (script_title (length runs.commands) (refused_among responses) (policy_among responses) outcome)) marks

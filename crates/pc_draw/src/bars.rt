@@ -6,11 +6,10 @@
 use crate::lanes::{Lane, MOST_LANES, Scene};
 use crate::layout::PictureLayout;
 use crate::rows::{Edge, FIFTHS, LaneRow, ROWS, RowStrip, draw_strip, height_of};
-use crate::step::{Answer, Step};
+use crate::step::{Answer, Deed, Step};
 use pc_calls::{Event, Reply};
 use pc_messages::Cpu;
 use pc_pen::Canvas;
-use pc_script::Command;
 
 /// How many rows all lanes have.
 const MOST_STRIPS: usize = MOST_LANES * ROWS.len();
@@ -318,9 +317,9 @@ impl<'t> Bars<'t> {
 
     /// Counts what the step itself did.
     fn count_step(&mut self, step: &Step) {
-        match step.command {
-            Command::Event(_) | Command::Mend { .. } => {}
-            Command::Enclave(_) | Command::Read(_) | Command::Policy(_) => return,
+        match step.deed {
+            Deed::Event(_) | Deed::Mend { .. } => {}
+            Deed::Enclave(_) | Deed::Other => return,
         }
         match step.answer {
             Answer::Event(Reply::Posted(posted)) => {
@@ -328,7 +327,7 @@ impl<'t> Bars<'t> {
                     tally.posts = tally.posts.saturating_add(1);
                 }
             }
-            Answer::Event(Reply::Done) => self.count_delta(&step.command),
+            Answer::Event(Reply::Done) => self.count_delta(&step.deed),
             Answer::Event(Reply::Associated { queue, .. }) => self.count_move(queue),
             Answer::Event(Reply::Committed { cpu, .. }) => {
                 // A thread is committed where its home is, but where it was stolen to mend the CPU.
@@ -356,8 +355,8 @@ impl<'t> Bars<'t> {
     }
 
     /// An agent took in a delta, if that was the command.
-    fn count_delta(&mut self, command: &Command) {
-        if let Command::Event(Event::Deliver { cpu, .. }) = command
+    fn count_delta(&mut self, deed: &Deed) {
+        if let Deed::Event(Event::Deliver { cpu, .. }) = deed
             && let Some(tally) = self.tallies.get_mut(cpu.index() as usize)
         {
             tally.deltas = tally.deltas.saturating_add(1);

@@ -3,7 +3,7 @@
 use crate::layout::{LEFT, PictureLayout};
 use crate::step::{Step, Story};
 use crate::ticks::Scale;
-use crate::words::{FaultLine, Of, Stretch};
+use crate::words::{FaultLine, Of, Stretch, Unmarked};
 use pc_pen::{Canvas, HEADING, LANE_EDGE, LANE_NAME, SMALL, background, stroke, words};
 use pc_script::Outcome;
 use std::fmt::{Display, Write};
@@ -72,12 +72,13 @@ fn draw_named<T: Display, N: Display>(canvas: &mut Canvas, line: &NamedLine, tol
 pub(crate) fn draw_ground(
     canvas: &mut Canvas,
     layout: &PictureLayout<'_>,
+    said: &[u8],
     story: &Story,
     steps: &[Step],
 ) {
     background(canvas, layout.width(), layout.height());
     canvas.done();
-    head_words(canvas, layout, story);
+    head_words(canvas, layout, said);
     part_words(canvas, layout);
     for lane in 0..layout.lanes {
         lane_ground(canvas, layout, layout.first_cpu.saturating_add(lane));
@@ -90,10 +91,10 @@ pub(crate) fn draw_ground(
 }
 
 /// The words on top.
-fn head_words(canvas: &mut Canvas, layout: &PictureLayout<'_>, story: &Story) {
+fn head_words(canvas: &mut Canvas, layout: &PictureLayout<'_>, said: &[u8]) {
     words(canvas, 8, 20, HEADING);
-    let summary = story.summary();
-    let _ = write!(canvas, "{summary}");
+    let said = Unmarked(said);
+    let _ = write!(canvas, "{said}");
     canvas.done();
     words(canvas, 8, 38, SMALL);
     let (axis, unit) = match layout.scale {

@@ -5,11 +5,11 @@
 //! of no CPU. Moves and the others are counted in rows.
 
 use crate::layout::PictureLayout;
-use crate::step::{Answer, Reason, Sent, Step};
+use crate::step::{Answer, Deed, Reason, Sent, Step};
 use pc_calls::{Event, Posted, Refusal, Reply};
 use pc_messages::Cpu;
 use pc_pen::{Canvas, Quoted, SMALL, arrow, bold_cross, hollow_cross, outline, stroke, words};
-use pc_script::{Command, Line};
+use pc_script::Line;
 use std::fmt::Write;
 
 /// The most crashes, and the most moves of threads, that are drawn one by one in a picture of many steps.
@@ -119,7 +119,7 @@ fn say_refusal(canvas: &mut Canvas, refusal: Refusal) {
 
 /// The index of the CPU whose agent crashed at a step.
 fn crash_of(step: &Step) -> Option<u8> {
-    let (Answer::Event(_), Command::Event(event)) = (step.answer, step.command) else {
+    let (Answer::Event(_), Deed::Event(event)) = (step.answer, step.deed) else {
         return None;
     };
     match event {
@@ -201,9 +201,9 @@ impl<'t> Moments<'t> {
         sent: &[Sent],
         canvas: &mut Canvas,
     ) {
-        match (step.answer, step.command) {
+        match (step.answer, step.deed) {
             (Answer::Refused(reason), _) => self.refusal(index, line, reason, step.lane(), canvas),
-            (Answer::Event(reply), Command::Event(event)) => match (event, reply) {
+            (Answer::Event(reply), Deed::Event(event)) => match (event, reply) {
                 (Event::Deliver { cpu, delta }, _) => {
                     if let Some(sent) = sent.get(usize::try_from(delta).unwrap_or(usize::MAX)) {
                         self.delta(index, line, cpu, sent, canvas);
@@ -211,10 +211,10 @@ impl<'t> Moments<'t> {
                 }
                 _ => self.event(index, line, &event, &reply, step.home, canvas),
             },
-            (Answer::Event(reply), Command::Mend { .. }) => {
+            (Answer::Event(reply), Deed::Mend { .. }) => {
                 self.mended(index, line, &reply, step.home, canvas);
             }
-            (Answer::Event(_), Command::Enclave(_) | Command::Read(_) | Command::Policy(_))
+            (Answer::Event(_), Deed::Enclave(_) | Deed::Other)
             | (Answer::Opened | Answer::Told, _) => {}
         }
     }

@@ -2,7 +2,6 @@
 
 ghost use Rattle.std.specs.Prelude.{OnOk, vec_len};
 ghost use Rattle.pc_pen.specs.Drawn.{Marks, Pictures};
-ghost use Rattle.pc_draw.specs.Pictures.{script_title};
 
 use crate::bars::Bars;
 use crate::ground::draw_ground;
@@ -11,10 +10,10 @@ use crate::layout::PictureLayout;
 use crate::legend::draw_legend;
 use crate::moments::Moments;
 use crate::part::{DrawnPart, Interval};
-use crate::step::{Answer, Step, Story, Traces};
+use crate::step::{Answer, Deed, Step, Story, Traces};
 use crate::ticks::Scale;
-use pc_pen::{Canvas, write_end, write_opening};
-use pc_script::{Command, Line, lines_of};
+use pc_pen::{Canvas, write_end, write_opening_bytes};
+use pc_script::{Line, lines_of};
 use std::io::{self, Write};
 
 /// Writes the bars of the steps that are drawn.
@@ -112,6 +111,7 @@ fn write_crashes<W: Write>(
 /// Writes the marks of the steps that are drawn.
 fn write_marks<W: Write>(
     layout: &PictureLayout<'_>,
+    words: &[u8],
     text: &[u8],
     story: &Story,
     steps: &[Step],
@@ -121,7 +121,7 @@ fn write_marks<W: Write>(
     ensures { OnOk result (Marks (W.contents writer.old) (W.contents writer.new)) }
 {
     let mut canvas = Canvas::new();
-    draw_ground(&mut canvas, layout, story, steps);
+    draw_ground(&mut canvas, layout, words, story, steps);
     canvas.write_to(writer)?;
     write_bars(layout, steps, traces, &mut canvas, writer)?;
     write_moments(layout, text, steps, traces, &mut canvas, writer)
@@ -130,7 +130,7 @@ fn write_marks<W: Write>(
 /// How many CPUs the accepted `enclave` has; none without one.
 pub(crate) fn cpus_of(steps: &[Step]) -> u32 {
     for step in steps {
-        if let (Command::Enclave(limits), Answer::Opened) = (step.command, step.answer) {
+        if let (Deed::Enclave(limits), Answer::Opened) = (step.deed, step.answer) {
             return u32::from(limits.cpus);
         }
     }
@@ -166,8 +166,11 @@ fn narrow(count: usize) -> u32 {
     u32::try_from(count).unwrap_or(u32::MAX)
 }
 
-/// Writes the picture of a part of a script's run, of which the text was. All its steps stand by this.
+/// Writes the picture of a part of a script's run, of which the text was, under this title and with these words on top.
+/// All its steps stand by this.
 pub(crate) fn write_picture<W: Write>(
+    title: &[u8],
+    words: &[u8],
     text: &[u8],
     story: &Story,
     traces: &Traces,
@@ -175,9 +178,7 @@ pub(crate) fn write_picture<W: Write>(
     scale: Scale<'_>,
     writer: &mut W,
 ) -> io::Result<()>
-    ensures { OnOk result (Pictures
-        (script_title (vec_len story.now.steps) story.now.refused story.now.policy story.now.outcome)
-        (W.contents writer.old) (W.contents writer.new)) }
+    ensures { OnOk result (Pictures title.now (W.contents writer.old) (W.contents writer.new)) }
 {
     let all = story.steps.as_slice();
     let (first, end) = places_in(all, part.lines);
@@ -190,7 +191,7 @@ pub(crate) fn write_picture<W: Write>(
         narrow(steps.len()),
         cpus_of(all),
     );
-    write_opening(layout.width(), layout.height(), &story.summary(), writer)?;
-    write_marks(&layout, text, story, steps, traces, writer)?;
+    write_opening_bytes(layout.width(), layout.height(), title, writer)?;
+    write_marks(&layout, words, text, story, steps, traces, writer)?;
     write_end(writer)
 }

@@ -3,7 +3,7 @@
 ghost use Rattle.std.specs.Prelude.{◌≡◌, ◌⊎◌, ◌+◌, ℕ, List, ◌<◌, ◌≤◌, length, vec_len, IfOk, IfSome, OnOk, Err};
 ghost use Rattle.std.specs.Io.KnownBytes.{Appends, Consumes};
 ghost use Rattle.pc_draw.specs.Parts.{Draws};
-ghost use Rattle.pc_draw.specs.Pictures.{script_title};
+ghost use Rattle.pc_draw.specs.Pictures.{script_title, xml_text};
 ghost use Rattle.pc_draw.specs.declared.part.Missing.{Missing};
 ghost use Rattle.pc_pen.specs.Drawn.{Pictures};
 ghost use Rattle.pc_script.specs.declared.input.TheConstants.{MOST_BYTES};
@@ -13,6 +13,7 @@ use crate::part::{DrawnPart, Missing};
 use crate::picture::{cpus_of, write_picture};
 use crate::record::Recorder;
 use crate::ticks::{Axis, Scale, ticks_along};
+use crate::words::Title;
 use pc_script::{Outcome, ScriptFault, read_text, walk};
 use pc_session::Session;
 use std::alloc::Global;
@@ -88,9 +89,9 @@ fn draw_recorded<W: Write>(
     axis: Axis,
     writer: &mut W,
 ) -> Result<(), ScriptFault>
-    ensures ok { OnOk result (Pictures
+    ensures ok { OnOk result (Pictures (xml_text
         (script_title (vec_len recorder.now.story.steps) recorder.now.story.refused recorder.now.story.policy
-        recorder.now.story.outcome) (W.contents writer.old) (W.contents writer.new)) }
+        recorder.now.story.outcome)) (W.contents writer.old) (W.contents writer.new)) }
     ensures no_memory { result ≡ Err ScriptFault.OutOfMemory → writer.new ≡ writer.old }
     ensures err { (fault : ScriptFault) → result ≡ Err fault
         → (fault ≡ ScriptFault.OutOfMemory) ⊎ (fault ≡ ScriptFault.Write) }
@@ -99,8 +100,20 @@ fn draw_recorded<W: Write>(
         Ok(ticks) => ticks,
         Err(_) => return Err(ScriptFault::OutOfMemory),
     };
+    let Ok(title) = Title::of(alloc, &recorder.story.summary()) else {
+        return Err(ScriptFault::OutOfMemory);
+    };
     let scale = Scale::of(axis, ticks.as_slice());
-    match write_picture(text, &recorder.story, &recorder.traces, part, scale, writer) {
+    match write_picture(
+        title.title(),
+        title.words(),
+        text,
+        &recorder.story,
+        &recorder.traces,
+        part,
+        scale,
+        writer,
+    ) {
         Ok(()) => Ok(()),
         Err(_) => Err(ScriptFault::Write),
     }

@@ -6,7 +6,7 @@ ghost use Rattle.pc_script.specs.declared.outcome.Outcome.{Outcome};
 
 use crate::lanes::{Change, MOST_LANES};
 use crate::words::Summary;
-use pc_calls::{AgentCall, Event, Refusal, Reply};
+use pc_calls::{AgentCall, Event, Limits, Refusal, Reply};
 use pc_messages::Cpu;
 use pc_policy::PolicyName;
 use pc_script::{Command, Outcome, Response};
@@ -35,12 +35,22 @@ pub(crate) enum Answer {
     Told,
 }
 
+/// A command, as far as pictures show it: a policy is large, and every step is kept.
+#[derive(Clone, Copy)]
+pub(crate) enum Deed {
+    Enclave(Limits),
+    Event(Event),
+    Mend { cpu: Cpu },
+    /// A question, or a policy.
+    Other,
+}
+
 /// A command of a script.
 #[derive(Clone, Copy)]
 pub(crate) struct Step {
     /// The number of its line, counted from 1.
     pub(crate) number: u32,
-    pub(crate) command: Command,
+    pub(crate) deed: Deed,
     pub(crate) answer: Answer,
     /// The home that its thread had before it, where there was one.
     pub(crate) home: Option<Cpu>,
@@ -117,7 +127,7 @@ impl Story {
     {
         let step = Step {
             number,
-            command: *command,
+            deed: deed_of(command),
             answer: answer_of(response),
             home,
             changed,
@@ -149,10 +159,10 @@ impl Step {
     /// The lane at which it is shown: of the CPU that its event names or that is mended, or of its thread's home; past
     /// all lanes where there is neither.
     pub(crate) fn lane(&self) -> usize {
-        let named = match &self.command {
-            Command::Event(event) => event.effect().cpu,
-            Command::Mend { cpu } => Some(*cpu),
-            _ => return MOST_LANES,
+        let named = match &self.deed {
+            Deed::Event(event) => event.effect().cpu,
+            Deed::Mend { cpu } => Some(*cpu),
+            Deed::Enclave(_) | Deed::Other => return MOST_LANES,
         };
         match (named, self.home) {
             (Some(cpu), _) | (None, Some(cpu)) => cpu.index() as usize,
@@ -192,6 +202,16 @@ fn policy_after(policy: Option<PolicyName>, response: &Response) -> Option<Polic
     match response {
         Response::Ruled(policy) => Some(*policy),
         _ => policy,
+    }
+}
+
+/// What pictures show of a command.
+fn deed_of(command: &Command) -> Deed {
+    match command {
+        Command::Enclave(limits) => Deed::Enclave(*limits),
+        Command::Event(event) => Deed::Event(*event),
+        Command::Mend { cpu } => Deed::Mend { cpu: *cpu },
+        Command::Read(_) | Command::Policy(_) => Deed::Other,
     }
 }
 

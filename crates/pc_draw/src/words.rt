@@ -1,13 +1,15 @@
 //! What is said in the picture of a script.
 
-ghost use Rattle.std.specs.Prelude.{◌++◌, Some, codes, decimal};
-ghost use Rattle.pc_draw.specs.Pictures.{fault_text, given_text, script_title};
+ghost use Rattle.std.specs.Prelude.{◌≡◌, ◌++◌, IfOk, Some, codes, decimal};
+ghost use Rattle.pc_draw.specs.Pictures.{fault_text, given_text, script_title, xml_text};
 
 use crate::part::DrawnPart;
 use pc_pen::Count;
 use pc_policy::PolicyName;
 use pc_script::Outcome;
+use std::alloc::{AllocError, Global};
 use std::fmt;
+use std::fmt::Write;
 
 /// The line that is a fault: `fault line 12`.
 #[derive(Clone, Copy)]
@@ -73,6 +75,72 @@ impl fmt::Display for Summary {
         let given = Given(self.policy);
         let ending = EndingWords(self.outcome);
         write!(f, "commands {commands}, refused {refused}{given}{ending}")
+    }
+}
+
+/// A text as XML has it: what would be markup is told by its name.
+fn xml_of(alloc: Global, text: &[u8]) -> Result<Vec<u8>, AllocError>
+    ensures { IfOk result (λ made. made.items ≡ xml_text text.now) }
+{
+    let mut made = Vec::new(alloc);
+    for byte in text {
+        match *byte {
+            b'&' => made.extend_from_slice(b"&amp;")?,
+            b'<' => made.extend_from_slice(b"&lt;")?,
+            b'>' => made.extend_from_slice(b"&gt;")?,
+            other => made.push(other)?,
+        }
+    }
+    Ok(made)
+}
+
+/// A summary, as a picture has it.
+#[derive(Drop)]
+pub(crate) struct Title {
+    title: Vec<u8>,
+    words: String,
+}
+
+impl Title {
+    /// Of this summary.
+    pub(crate) fn of(alloc: Global, summary: &Summary) -> Result<Title, AllocError>
+        ensures { IfOk result (λ made. made.title.items ≡ xml_text
+            (script_title summary.now.commands summary.now.refused summary.now.policy summary.now.outcome)) }
+    {
+        let words = summary.to_string(alloc)?;
+        Ok(Title {
+            title: xml_of(alloc, words.as_bytes())?,
+            words,
+        })
+    }
+
+    /// The title, as XML has it.
+    pub(crate) fn title(&self) -> &[u8]
+        ensures { result.now ≡ self.now.title.items }
+    {
+        self.title.as_slice()
+    }
+
+    /// The same in words.
+    pub(crate) fn words(&self) -> &[u8] {
+        self.words.as_bytes()
+    }
+}
+
+/// Words of a mark: in the place of what would be markup stands what looks like it.
+#[derive(Clone, Copy)]
+pub(crate) struct Unmarked<'a>(pub(crate) &'a [u8]);
+
+impl fmt::Display for Unmarked<'_> {
+    fn fmt<W: fmt::Write>(&self, f: &mut fmt::Formatter<W>) -> fmt::Result {
+        for byte in self.0 {
+            match *byte {
+                b'<' => f.write_str("\u{2039}")?,
+                b'>' => f.write_str("\u{203a}")?,
+                other => f.write_char(char::from(other))?,
+            }
+        }
+        Ok(())
     }
 }
 

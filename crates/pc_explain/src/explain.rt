@@ -74,7 +74,7 @@ fn on_command(
     command: &Command,
     response: &Response,
     before: &Before,
-    policy: PolicyName,
+    policy: &PolicyName,
 ) -> Sentences {
     let mut sentences = Sentences::new();
     let scene = CommandContext {
@@ -86,20 +86,10 @@ fn on_command(
     sentences
 }
 
-/// The policy after a response: the one that it tells of, if it does.
-fn policy_after(policy: PolicyName, response: &Response) -> PolicyName {
-    match response {
-        Response::Ruled(policy) => *policy,
-        Response::Opened
-        | Response::NoEnclave
-        | Response::HaveEnclave
-        | Response::BadLimits(_)
-        | Response::Event(_)
-        | Response::Status { .. }
-        | Response::Truth(_)
-        | Response::Sameness(_)
-        | Response::View(_)
-        | Response::Refused(_) => policy,
+/// Notes the policy that a response tells of, if it does.
+fn note_policy(policy: &mut PolicyName, response: &Response) {
+    if let Response::Ruled(told) = response {
+        *policy = *told;
     }
 }
 
@@ -188,8 +178,8 @@ impl<W: Write> Observer<Session, W> for Comments {
         writer: &mut W,
     ) -> Result<(), ScriptFault> {
         self.settled = settled_by(self.settled);
-        self.policy = policy_after(self.policy, response);
-        let sentences = on_command(machine, command, response, &self.before, self.policy);
+        note_policy(&mut self.policy, response);
+        let sentences = on_command(machine, command, response, &self.before, &self.policy);
         let told = write_told(line, response, &sentences, writer);
         let_view_go(response);
         told

@@ -84,6 +84,10 @@ fn fault(text: &mut Sentences, settled: Settled, line: &[u8]) -> fmt::Result {
             zeros(text, word)?;
             form(text, verb)
         }
+        Some(Trouble::Rank { fault }) => {
+            writeln!(text, "In the expression behind `rank`, {fault}.")?;
+            form(text, Verb::Policy)
+        }
         Some(Trouble::TooMany { verb, place, word }) => {
             let quoted = QuotedWord(word);
             writeln!(text, "Word {place}, `{quoted}`, is one too many.")?;

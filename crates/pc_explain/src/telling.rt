@@ -26,7 +26,7 @@ pub(crate) struct CommandContext<'a> {
     /// What is remembered of the world before it.
     pub(crate) before: &'a Before,
     /// The policy that all agents go by.
-    pub(crate) policy: PolicyName,
+    pub(crate) policy: &'a PolicyName,
 }
 
 /// Tells what a command changed, why it was refused, or what it was answered.
@@ -58,7 +58,7 @@ fn told(
         }
         (Command::Read(question), _) => questions::answered(text, question, response, scene),
         (Command::Mend { cpu }, Response::Event(reply)) => mends::told(text, *cpu, reply, scene),
-        (_, Response::Ruled(policy)) => policies::ruled(text, *policy),
+        (_, Response::Ruled(policy)) => policies::ruled(text, policy),
         (_, Response::Refused(refusal)) => policies::refused(text, refusal),
         (_, Response::NoEnclave) => refusals::no_enclave(text),
         (_, Response::HaveEnclave) => refusals::have_enclave(text),

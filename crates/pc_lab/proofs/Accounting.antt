@@ -9,6 +9,7 @@ use Rattle.pc_messages.specs.declared.reported.Reported.{Reported}
 use Rattle.pc_load.specs.Loads.{Demand, Need, need_of}
 use Rattle.pc_load.specs.declared.load.ThreadLoad.{ThreadLoad}
 use Rattle.pc_lab.specs.Accounts.{AddsUp, AreEnded, demand_of, ended}
+use Rattle.pc_lab.specs.Stalling.{HasStalled}
 use Rattle.pc_lab.specs.declared.summary.Summary.{Summary}
 
 -- a state is told by its parts
@@ -65,3 +66,9 @@ pub same_account : (load load' : Demand) (keep keep' : Bool) (kernel kernel' : R
 same_account load load' keep keep' kernel kernel' summary of_load of_keep of_kernel adds =
     subst (λ l. AddsUp l keep' kernel' summary) of_load
     (subst (λ k. AddsUp load k kernel' summary) of_keep (subst (λ r. AddsUp load keep r summary) of_kernel adds))
+
+-- a stall is one of what is the same
+pub same_stall : (load load' : Demand) (kernel kernel' : Reads) (t : ℕ) → load ≡ load' → kernel ≡ kernel' → HasStalled load kernel t
+    → HasStalled load' kernel' t
+same_stall load load' kernel kernel' t of_load of_kernel stalled =
+    subst (λ l. HasStalled l kernel' t) of_load (subst (λ r. HasStalled load r t) of_kernel stalled)

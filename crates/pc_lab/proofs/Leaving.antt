@@ -1,5 +1,5 @@
 -- A thread that leaves its CPU is not created by it, and not committed.
-use Rattle.std.proofs.Common.{ℕ, ◌≡◌, refl}
+use Rattle.std.proofs.Common.{ℕ, refl}
 use Rattle.pc_calls.specs.Leavings.{call_for}
 use Rattle.pc_calls.specs.declared.event.Event.TheVariants.{Env}
 use Rattle.pc_calls.specs.declared.leaving.Leaving.{Leaving}

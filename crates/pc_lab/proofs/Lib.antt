@@ -8,3 +8,4 @@ pub mod Texts
 pub mod Spending
 pub mod Readiness
 pub mod Leaving
+pub mod Holding

@@ -1,12 +1,11 @@
 -- What holds of every run.
-use Rattle.std.proofs.Common.{◌≡◌, ◌<◌, ◌≤◌, ◌+◌, ◌⊎◌, inl, inr, ◌∙◌, ℕ, zero, suc, List, [], ◌∷◌, ◌++◌, Bool, true, false, Option, Some, None, Result, Ok, Err, MatchBool, length, map, take, slice_get, is_some, refl, sym, ap, subst, arith}
+use Rattle.std.proofs.Common.{◌≡◌, ◌<◌, ◌≤◌, ◌⊎◌, inl, inr, ◌∙◌, ℕ, zero, suc, List, [], ◌∷◌, ◌++◌, Bool, true, false, Option, Some, None, Result, Ok, Err, MatchBool, length, map, take, slice_get, is_some, refl, sym, ap, subst, arith}
 use Rattle.std.proofs.lemmas.Bool.{cases_lt}
-use Rattle.std.proofs.lemmas.List.{append-nil, length-append, map-append, take-append-le}
-use Rattle.std.proofs.lemmas.Option.{same_Some, slice_get_past, slice_get_within}
+use Rattle.std.proofs.lemmas.List.{length-append, map-append, take-append-le}
+use Rattle.std.proofs.lemmas.Option.{same_Some, slice_get_within}
 use Rattle.std.proofs.Math.Seq.{take-append_seam}
 use Rattle.pc_agent.specs.PlainAgent.{Set, pick_refused, ready_list}
 use Rattle.pc_agent.specs.Running.{takes_over}
-use Rattle.pc_calls.specs.AgentCalls.{commits}
 use Rattle.pc_calls.specs.Events.{told_of}
 use Rattle.pc_calls.specs.declared.call.AgentCall.{AgentCall}
 use Rattle.pc_calls.specs.declared.call.AgentCall.TheVariants as agent_call
@@ -18,15 +17,13 @@ use Rattle.pc_calls.specs.declared.event.Event.{Event}
 use Rattle.pc_calls.specs.declared.event.Event.TheVariants as event
 use Rattle.pc_calls.specs.declared.event.Reply.{Reply}
 use Rattle.pc_calls.specs.declared.event.Reply.TheVariants as reply
-use Rattle.pc_calls.specs.declared.limits.Limits.{Limits}
 use Rattle.pc_calls.specs.declared.refusal.Refusal.{Refusal}
 use Rattle.pc_kernel.specs.Reads.{is_cpu, on, shown}
 use Rattle.pc_kernel.specs.Steps as kernel
-use Rattle.pc_policy.specs.Rules.{Rules}
-use Rattle.pc_world.specs.PlainWorld.{PlainWorld, opened_by}
+use Rattle.pc_world.specs.PlainWorld.{PlainWorld}
 use Rattle.pc_world.specs.Reached as world
 use Rattle.pc_world.specs.Reached.{LeadsTo, Reached}
-use Rattle.pc_world.specs.Steps.{IsBadCpu, IsCommitted, IsConsumed, IsDelivered, IsPicked, IsPublished, IsStolen, IsTakenOver, IsTried, IsAnswered, Step, are_cpus, stealable}
+use Rattle.pc_world.specs.Steps.{IsBadCpu, IsCommitted, IsConsumed, IsDelivered, IsPicked, IsPublished, IsStolen, IsTakenOver, IsTried, IsAnswered, Step, are_cpus}
 use Rattle.pc_lab.specs.Laws.{CommitsTakeTheFirst, GoesOn, MomentsGoOn, MomentsReach, TakesTheFirst}
 use Rattle.pc_lab.specs.Moments as moments
 use Rattle.pc_lab.specs.Moments.{IsNoCommit, Leads, Moment}

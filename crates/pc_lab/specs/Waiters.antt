@@ -1,5 +1,5 @@
 -- What is kept of threads as far as they wait.
-use Rattle.std.specs.Prelude.{◌≡◌, ℕ, ◌<◌, Bool, true, false, List, length, get_or}
+use Rattle.std.specs.Prelude.{◌≡◌, ℕ, ◌<◌, false, List, length, get_or}
 use Rattle.pc_load.specs.Loads.{Demand}
 use Rattle.pc_lab.specs.declared.waits.Waiter.{Waiter}
 use Rattle.pc_lab.specs.declared.waits.Wait.{Wait}

@@ -1,12 +1,14 @@
-//! Whether a run that is done adds up to its load.
+//! Whether a run that is done adds up to its load, and one that stalled has.
 
-ghost use Rattle.std.specs.Prelude.{◌≡◌, ◌+◌, Some, true, IfOk, IfSome, OnOk, map, sum_by};
+ghost use Rattle.std.specs.Prelude.{◌≡◌, ◌+◌, ℕ, Some, true, IfOk, IfSome, OnOk, map, sum_by};
 ghost use Rattle.pc_kernel.specs.Reads.{reported_of, seen};
 ghost use Rattle.pc_load.specs.Loads.{need_of};
 ghost use Rattle.pc_lab.specs.Accounts.{AddsUp, AreEnded, demand_of, ended, steps_in};
+ghost use Rattle.pc_lab.specs.Stalling.{HasStalled};
 
 use crate::counted::Counted;
 use crate::fault::LabFault;
+use crate::stalls::has_stalled;
 use crate::summary::{RunEnding, Summary};
 use crate::times::CpuTime;
 use pc_kernel::Kernel;
@@ -25,7 +27,7 @@ fn ticks_of(steps: &[LoadStep]) -> u128
     sum
 }
 
-const fn is_dead(phase: Phase) -> bool
+pub(crate) const fn is_dead(phase: Phase) -> bool
     ensures { result ≡ true → phase ≡ Phase.Dead }
 {
     matches!(phase, Phase::Dead)
@@ -143,8 +145,8 @@ fn adds_up(
 }
 
 /// Holds what is told of a run against its load: where it is done, each thread has to have ended in the kernel, and the
-/// ticks that CPUs ran and the commits have to be those that the threads need (own). `keep` is whether recorded
-/// preempts are kept.
+/// ticks that CPUs ran and the commits have to be those that the threads need; where it has stalled at a thread, that
+/// has to be so in the kernel (own). `keep` is whether recorded preempts are kept.
 ///
 /// # Errors
 /// [`LabFault::Unaccounted`] and [`LabFault::OutOfMemory`].
@@ -155,12 +157,20 @@ pub fn check_account(
     kernel: &Kernel,
     summary: &Summary,
 ) -> Result<(), LabFault>
-    ensures { OnOk result (summary.now.ending ≡ RunEnding.Done
+    ensures done { OnOk result (summary.now.ending ≡ RunEnding.Done
         → AddsUp load.now keep (seen kernel.now) summary.now) }
+    ensures stalled { OnOk result ((t : ℕ) → summary.now.ending ≡ RunEnding.Stalled t
+        → HasStalled load.now (seen kernel.now) t) }
 {
     match summary.ending {
         RunEnding::Done => {
             if !adds_up(alloc, load, keep, kernel, summary)? {
+                return Err(LabFault::Unaccounted);
+            }
+            Ok(())
+        }
+        RunEnding::Stalled(thread) => {
+            if !has_stalled(kernel, load, thread) {
                 return Err(LabFault::Unaccounted);
             }
             Ok(())

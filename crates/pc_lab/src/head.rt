@@ -45,14 +45,14 @@ fn write_version(text: &mut Vec<u8>) -> Result<(), LabFault>
 }
 
 /// Adds the commands by which a session opens the world.
-fn write_opening(text: &mut Vec<u8>, limits: Limits, policy: PolicyName) -> Result<(), LabFault>
-    ensures { OnOk result (text.new.items ≡ text.old.items ++ opening_text limits policy) }
+fn write_opening(text: &mut Vec<u8>, limits: Limits, policy: &PolicyName) -> Result<(), LabFault>
+    ensures { OnOk result (text.new.items ≡ text.old.items ++ opening_text limits policy.now) }
 {
     let enclave = Command::Enclave(limits);
-    if policy.is_usual() {
+    if (*policy).is_usual() {
         return write_command(text, &enclave);
     }
-    let policy = Command::Policy(policy);
+    let policy = Command::Policy(*policy);
     write_version(text)?;
     write_command(text, &enclave)?;
     write_command(text, &policy)
@@ -68,6 +68,6 @@ pub fn head_of(alloc: Global, load: &Load, variant: &Variant) -> Result<Vec<u8>,
 {
     let mut text = Vec::new(alloc);
     write_comment(&mut text, variant)?;
-    write_opening(&mut text, limits_of(load), variant.policy)?;
+    write_opening(&mut text, limits_of(load), &variant.policy)?;
     Ok(text)
 }

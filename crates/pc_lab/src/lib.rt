@@ -20,6 +20,8 @@ mod player;
 mod ranges;
 mod run;
 mod stage;
+mod stalls;
+mod standing;
 mod steals;
 mod summary;
 mod times;

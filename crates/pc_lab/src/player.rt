@@ -10,6 +10,7 @@ use crate::due::{Due, What, first_of};
 use crate::fault::LabFault;
 use crate::run::{Numbers, Run, Stop};
 use crate::stage::{Setting, Stage};
+use crate::stalls::first_waiting;
 use crate::summary::{Played, RunEnding};
 use pc_calls::{Limits, MOST_NUMBERS, MOST_POSTS, MOST_ROOM};
 use pc_load::{Load, Variant};
@@ -92,12 +93,20 @@ impl<K: Setting> Run<K> {
         RunEnding::Until
     }
 
-    /// Does the next thing, unless the run ends in front of it.
+    /// Nothing is due, though threads live: no agent runs one of them from now on.
+    fn stall(&self) -> Result<RunEnding, Stop> {
+        match first_waiting(self.kernel()) {
+            Some(thread) => Ok(RunEnding::Stalled(thread)),
+            None => Err(Stop::Fault(LabFault::Unaccounted)),
+        }
+    }
+
+    /// Does the next thing, unless the run ends in front of it. There are threads that live.
     fn do_next(&mut self, load: &Load) -> Result<Option<RunEnding>, Stop>
         requires { load.now ≡ K.load }
     {
         let Some(due) = self.take_next(load) else {
-            return Ok(Some(self.stop(load)));
+            return Ok(Some(self.stall()?));
         };
         if due.tick >= load.until() {
             return Ok(Some(self.stop(load)));
@@ -156,7 +165,7 @@ fn play_as<K: Setting>(
 /// Plays a load under a variant of the policy, on a world of its own, from tick 0 on (own).
 ///
 /// Each event is added to the chronicle, behind what it has. A run ends when all threads are dead, in front of a thing
-/// of the tick at which it stops or of a later one, or where a post is refused as `NumbersSpent`.
+/// of the tick at which it stops or of a later one, where nothing is due, or where a post is refused as `NumbersSpent`.
 ///
 /// # Errors
 /// [`LabFault::OutOfMemory`], [`LabFault::ScriptTooLong`], [`LabFault::TooLong`] and [`LabFault::Unaccounted`]: then

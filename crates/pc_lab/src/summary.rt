@@ -4,6 +4,7 @@ use crate::chronicle::Chronicle;
 use crate::counted::Tally;
 use crate::times::CpuTime;
 use crate::waits::Wait;
+use pc_messages::Tid;
 
 /// How a run ended (own).
 #[derive(Clone, Copy, Debug, PartialEq, Eq)]
@@ -14,6 +15,8 @@ pub enum RunEnding {
     Until,
     /// A thread has as many messages as it may have.
     NumbersSpent,
+    /// Nothing is due, and threads live, of which this is the first: no agent ever runs it.
+    Stalled(Tid),
 }
 
 /// What is told of a run (own). Ticks are those of the load.

@@ -9,6 +9,7 @@ use crate::fault::LabFault;
 use crate::lane::{Life, News, SentDelta};
 use crate::run::{Run, Stop};
 use crate::stage::Setting;
+use crate::standing::{gives_way, rises_slowly, ticks_before};
 use crate::times::word_of;
 use pc_calls::{AgentCall, EnvCall, Event, Leaving, Left, Posted, Refusal, Reply};
 use pc_load::Load;
@@ -144,7 +145,7 @@ impl<K: Setting> Run<K> {
         let ran = self.lane(cpu).ran;
         let its = self.rank(cpu, thread, ran);
         let other = self.rank(cpu, first, 0);
-        if !(other < its) && (only_before || its < other) {
+        if !gives_way(its, other, only_before) {
             return Ok(false);
         }
         self.preempts = self.preempts.saturating_add(1);
@@ -206,26 +207,24 @@ impl<K: Setting> Run<K> {
         }
     }
 
-    /// For how many ticks the thread that runs on the CPU stands before the first that could run, if nothing changes.
+    /// For how many ticks at least the thread that runs on the CPU stands before the first that could run, if nothing
+    /// changes.
     fn ticks_before(&self, cpu: Cpu, thread: Tid) -> u64 {
+        // Another one could run only behind a turn of the agent, which is a change.
         let Some(first) = self.first(cpu) else {
             return u64::MAX;
         };
-        let ran = self.lane(cpu).ran;
-        let Some(own) = self.rank(cpu, thread, ran) else {
+        // Ranks of other orders may fall, jump and vanish with any tick: the end of each whole quantum is looked at.
+        // The rank of the first stays as it is, since it does not run.
+        if !rises_slowly(&self.numbers.order) {
             return 0;
-        };
-        let Some(later) = self.rank(cpu, thread, ran.saturating_add(1)) else {
-            return 0;
-        };
-        let Some(other) = self.rank(cpu, first, 0) else {
-            return 0;
-        };
-        // Where a tick changes no rank, what it runs does not bring it nearer.
-        if own < other && later == own {
-            return u64::MAX;
         }
-        other.saturating_sub(own)
+        let ran = self.lane(cpu).ran;
+        ticks_before(
+            self.rank(cpu, thread, ran),
+            self.rank(cpu, thread, ran.saturating_add(1)),
+            self.rank(cpu, first, 0),
+        )
     }
 
     /// The first tick at which anything may change.

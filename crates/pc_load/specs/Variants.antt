@@ -1,11 +1,13 @@
 -- What variants are asked for, what is wrong with them, and how one is written.
 use Rattle.std.specs.Prelude.{ℕ, ℤ, pos, ◌+◌, ◌==◌, Bool, false, not, ◌&&◌, ◌||◌, nat_le, nat_lt, List}
-use Rattle.std.specs.Prelude.{if◌then◌else◌, [], ◌∷◌, ◌++◌, length, flat_map, Option, bytes_eq, codes, decimal}
+use Rattle.std.specs.Prelude.{if◌then◌else◌, [], ◌∷◌, ◌++◌, length, flat_map, Option, Some, is_some, bytes_eq}
+use Rattle.std.specs.Prelude.{codes, decimal}
 use Rattle.std.specs.Prelude.{encode_utf8}
 use Rattle.std.specs.List.{list_all}
 use Rattle.pc_calls.specs.Conditions.{first_of}
-use Rattle.pc_policy.specs.Names.{is_order, is_stealing, order_word, stealing_of, stealing_word}
+use Rattle.pc_policy.specs.Names.{is_stealing, order_of, order_text, stealing_of, stealing_word}
 use Rattle.pc_policy.specs.declared.agent_policy.Stealing.TheVariants.{Least}
+use Rattle.pc_policy.specs.declared.named.OrderName.{OrderName}
 use Rattle.pc_policy.specs.declared.named.OrderName.TheVariants.{Levels}
 use Rattle.pc_load.specs.Loads.{is_between, is_u32}
 use Rattle.pc_load.specs.declared.variant.TheConstants.{MOST_VARIANTS, MOST_NAME, MOST_GROUP}
@@ -14,10 +16,10 @@ use Rattle.pc_load.specs.declared.variant.VariantDraft.{VariantDraft}
 use Rattle.pc_load.specs.declared.variant.VariantFault.{VariantFault}
 use Rattle.pc_load.specs.declared.variant.VariantFault.TheVariants.{TooMany, Bad}
 
--- what is chosen for a variant, in the words and numbers of a text
+-- what is chosen for a variant, in the words and numbers of a text; no order, where the text of it names none
 pub record Choice : Type 0 where
   pub name : List ℕ
-  pub order : List ℕ
+  pub order : Option OrderName
   pub steals : List ℕ
   pub quantum : ℤ
   pub group : ℤ
@@ -30,7 +32,7 @@ pub record Choice : Type 0 where
 abbrev pub choice_in : VariantDraft → Choice
 choice_in draft = record {
   name = draft.name.now;
-  order = draft.order.now;
+  order = order_of draft.order.now;
   steals = draft.steals.now;
   quantum = draft.quantum;
   group = draft.group;
@@ -44,7 +46,7 @@ choice_in draft = record {
 abbrev pub choice_of : Variant → Choice
 choice_of variant = record {
   name = variant.name.items;
-  order = order_word variant.policy.order;
+  order = Some variant.policy.order;
   steals = stealing_word (stealing_of variant.policy.exact);
   quantum = pos variant.quantum;
   group = pos variant.group;
@@ -54,11 +56,15 @@ choice_of variant = record {
   keep = variant.keep;
 }
 
+-- the text of its order, where none is given
+abbrev pub plain_order : List ℕ
+plain_order = order_text Levels
+
 -- the variant of all defaults
 abbrev pub plain : Choice
 plain = record {
   name = codes "plain";
-  order = order_word Levels;
+  order = order_of plain_order;
   steals = stealing_word Least;
   quantum = pos 0;
   group = pos MOST_GROUP;
@@ -90,7 +96,7 @@ are_numbers choice =
 
 -- each value is in its range
 abbrev pub is_variant : Choice → Bool
-is_variant choice = is_name choice.name && is_order choice.order && is_stealing choice.steals && are_numbers choice
+is_variant choice = is_name choice.name && is_some choice.order && is_stealing choice.steals && are_numbers choice
 
 -- no variant before has the name
 abbrev pub is_new : List ℕ → List Choice → Bool
@@ -121,7 +127,7 @@ name_text name = flat_map encode_utf8 name
 abbrev pub variant_text : Variant → List ℕ
 variant_text variant =
     codes "# lab, variant " ++ (name_text variant.name.items
-    ++ (codes ": order " ++ (order_word variant.policy.order
+    ++ (codes ": order " ++ (order_text variant.policy.order
     ++ (codes ", steals " ++ (stealing_word (stealing_of variant.policy.exact)
     ++ (codes ", quantum " ++ (decimal variant.quantum
     ++ (codes ", group " ++ (decimal variant.group

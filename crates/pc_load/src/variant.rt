@@ -48,7 +48,7 @@ pub struct Variant {
 pub struct VariantDraft<'a> {
     /// Its title.
     pub name: &'a str,
-    /// The word for the order of run lists.
+    /// The order of run lists: its word, or `rank` and an expression.
     pub order: &'a str,
     /// The word for what a steal takes.
     pub steals: &'a str,
@@ -116,8 +116,12 @@ pub struct Variants {
 impl Model for Variants {
     ghost use Rattle.std.specs.Prelude.{◌≡◌, None, List, map};
     ghost use Rattle.pc_load.specs.Variants.{Choice, choice_of, variant_fault};
+    ghost use Rattle.pc_rank.specs.contracts.expression.Expression as expression;
+    ghost use Rattle.std.specs.Coded.{codes};
 
     ghost Value = { List Choice };
+
+    ghost coded = { Prim.hlevel (codes, expression.the_row.coded) };
 
     ghost view = { λ all. map choice_of all.variants.items };
 

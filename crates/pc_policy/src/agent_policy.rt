@@ -54,9 +54,10 @@ impl AgentPolicy {
     ) -> Result<Vec<AgentPolicy>, AllocError>
         ensures { IfOk result (λ policies. AreAll (rules_named name) agents policies.items) }
     {
+        let name = &name;
         let mut policies = Vec::new(alloc);
         for _ in 0..agents {
-            policies.push(AgentPolicy::named(name))?;
+            policies.push(AgentPolicy::named(*name))?;
         }
         Ok(policies)
     }

@@ -27,6 +27,6 @@ mod order;
 mod policy;
 
 pub use agent_policy::{AgentPolicy, Stealing};
-pub use named::{OrderName, PolicyName};
+pub use named::{LONGEST_POLICY, OrderFault, OrderName, PolicyName};
 pub use order::Order;
 pub use policy::Policy;

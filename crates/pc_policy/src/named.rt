@@ -1,14 +1,20 @@
 //! Policies by their texts: each is an order, and whether steals are exact.
 
-ghost use Rattle.std.specs.Prelude.{◌≡◌, is_some, MatchOption};
-ghost use Rattle.pc_policy.specs.Names.{is_order, is_stealing, is_usual, order_word, policy_text, stealing_of};
-ghost use Rattle.pc_policy.specs.Names.{stealing_word};
+ghost use Rattle.std.specs.Prelude.{◌≡◌, true, is_some, IfErr, IfOk, MatchOption};
+ghost use Rattle.std.specs.Result.{result_ok};
+ghost use Rattle.pc_policy.specs.Names.{IsOrder, IsPolicy, IsReadAgain, is_built_in, is_order, is_stealing, is_usual};
+ghost use Rattle.pc_policy.specs.Names.{order_of, order_text, stealing_of, stealing_word};
 ghost use Rattle.pc_policy.specs.Rules.{is_exact};
 
 use crate::agent_policy::Stealing;
+use pc_rank::{Expression, RankFault};
 use std::fmt;
+use thiserror::Error;
 
-/// An order that has a name (own).
+/// No policy has a longer text, in bytes: `rank `, an expression and ` exact`.
+pub const LONGEST_POLICY: usize = 5 + Expression::LONGEST + 6;
+
+/// An order that has a text (own).
 #[derive(Clone, Copy, Debug, PartialEq, Eq)]
 pub enum OrderName {
     /// The highest level first: the rank is as far below 7 as the level is.
@@ -20,9 +26,22 @@ pub enum OrderName {
     /// The highest level first, and within a level the thread that ran for the fewest ticks. From 2^60 - 1 ticks on all
     /// are alike.
     LevelsThenLeastRan,
+    /// By an expression: the rank that it gives. Its text is `rank` and the expression's.
+    Rank(Expression),
 }
 
-/// A policy that has a text, as `levels` or `fifo exact`: scripts, loads and the command line have this text (own).
+/// Why a text is no order, or no policy.
+#[derive(Clone, Copy, Debug, PartialEq, Eq, Error)]
+pub enum OrderFault {
+    /// It is not the word of an order, and does not begin with `rank` and a space.
+    #[error("there is no such order")]
+    NoOrder,
+    /// What stands behind `rank` and a space, where the bytes are counted, is no expression.
+    #[error("{0}")]
+    Rank(RankFault),
+}
+
+/// A policy that has a text, as `levels`, `fifo exact` or `rank ran / 10` (own).
 #[derive(Clone, Copy, Debug, PartialEq, Eq)]
 pub struct PolicyName {
     /// In which order agents would run their threads.
@@ -32,18 +51,21 @@ pub struct PolicyName {
 }
 
 impl OrderName {
-    /// All of them, as they are listed.
-    pub const ALL: [OrderName; 4] = [
+    /// Those that have a word, as they are listed.
+    pub const BUILT_IN: [OrderName; 4] = [
         OrderName::Levels,
         OrderName::Fifo,
         OrderName::LeastRan,
         OrderName::LevelsThenLeastRan,
     ];
 
+    /// What stands in front of an expression.
+    const RANK: &'static [u8] = b"rank ";
+
     /// The order that a word names. It takes no memory.
     pub fn named(word: &[u8]) -> Option<OrderName>
-        ensures order { MatchOption result ((any : OrderName) → word.now ≡ order_word any → ⊥)
-            (λ order. word.now ≡ order_word order) }
+        ensures order { MatchOption result ((any : OrderName) → is_built_in any ≡ true → word.now ≡ order_text any → ⊥)
+            (λ order. (is_built_in order ≡ true) × (word.now ≡ order_text order)) }
         ensures known { is_some result ≡ is_order word.now }
     {
         if word == b"levels".as_slice() {
@@ -59,6 +81,27 @@ impl OrderName {
             return Some(OrderName::LevelsThenLeastRan);
         }
         None
+    }
+
+    /// The order of a text: the one that a word names, or the one by the expression behind `rank`. It takes no memory.
+    pub fn read(text: &[u8]) -> Result<OrderName, OrderFault>
+        ensures ok { IfOk result (λ order. IsOrder text.now order) }
+        ensures err { IfErr result (λ fault. (any : OrderName) → IsOrder text.now any → ⊥) }
+        ensures reads { result_ok result ≡ order_of text.now }
+    {
+        if let Some(order) = OrderName::named(text) {
+            return Ok(order);
+        }
+        let Some(rest) = text.strip_prefix(OrderName::RANK) else {
+            return Err(OrderFault::NoOrder);
+        };
+        match Expression::read(rest) {
+            Ok(expression) => {
+                expression.is_read_again();
+                Ok(OrderName::Rank(expression))
+            }
+            Err(fault) => Err(OrderFault::Rank(fault)),
+        }
     }
 }
 
@@ -93,23 +136,33 @@ impl PolicyName {
         exact: false,
     };
 
-    /// The policy that a text names. It takes no memory.
-    pub fn named(text: &[u8]) -> Option<PolicyName>
-        ensures { MatchOption result ((any : PolicyName) → text.now ≡ policy_text any → ⊥)
-            (λ policy. text.now ≡ policy_text policy) }
+    /// What stands behind the order where steals are exact.
+    const EXACT: &'static [u8] = b" exact";
+
+    /// The policy of a text. A fault of an expression is told of the text without ` exact` at its end. It takes no
+    /// memory.
+    pub fn read(text: &[u8]) -> Result<PolicyName, OrderFault>
+        ensures ok { IfOk result (λ policy. IsPolicy text.now policy) }
+        ensures err { IfErr result (λ fault. (any : PolicyName) → IsPolicy text.now any → ⊥) }
     {
-        if let Some(order) = OrderName::named(text) {
-            return Some(PolicyName {
-                order,
+        match text.strip_suffix(PolicyName::EXACT) {
+            Some(front) => Ok(PolicyName {
+                order: OrderName::read(front)?,
+                exact: true,
+            }),
+            None => Ok(PolicyName {
+                order: OrderName::read(text)?,
                 exact: false,
-            });
+            }),
         }
-        match text.strip_suffix(b" exact".as_slice()) {
-            Some(word) => match OrderName::named(word) {
-                Some(order) => Some(PolicyName { order, exact: true }),
-                None => None,
-            },
-            None => None,
+    }
+
+    /// What is written of it is read again.
+    pub fn is_read_again(&self)
+        ensures { IsReadAgain self.now.order }
+    {
+        if let OrderName::Rank(expression) = &self.order {
+            expression.is_read_again();
         }
     }
 
@@ -119,7 +172,10 @@ impl PolicyName {
     {
         match self.order {
             OrderName::Levels => !self.exact,
-            OrderName::Fifo | OrderName::LeastRan | OrderName::LevelsThenLeastRan => false,
+            OrderName::Fifo
+            | OrderName::LeastRan
+            | OrderName::LevelsThenLeastRan
+            | OrderName::Rank(_) => false,
         }
     }
 
@@ -138,15 +194,16 @@ impl PolicyName {
 impl fmt::Display for OrderName {
     ghost use Rattle.std.specs.Prelude.{Some};
 
-    ghost output = { λ order. Some (order_word order) };
+    ghost output = { λ order. Some (order_text order) };
 
     fn fmt<W: fmt::Write>(&self, f: &mut fmt::Formatter<W>) -> fmt::Result {
-        f.write_str(match self {
-            OrderName::Levels => "levels",
-            OrderName::Fifo => "fifo",
-            OrderName::LeastRan => "least-ran",
-            OrderName::LevelsThenLeastRan => "levels-then-least-ran",
-        })
+        match self {
+            OrderName::Levels => f.write_str("levels"),
+            OrderName::Fifo => f.write_str("fifo"),
+            OrderName::LeastRan => f.write_str("least-ran"),
+            OrderName::LevelsThenLeastRan => f.write_str("levels-then-least-ran"),
+            OrderName::Rank(expression) => write!(f, "rank {expression}"),
+        }
     }
 }
 
@@ -165,6 +222,7 @@ impl fmt::Display for Stealing {
 
 impl fmt::Display for PolicyName {
     ghost use Rattle.std.specs.Prelude.{Some};
+    ghost use Rattle.pc_policy.specs.Names.{policy_text};
 
     ghost output = { λ policy. Some (policy_text policy) };
 

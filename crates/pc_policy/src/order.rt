@@ -1,11 +1,12 @@
 //! The policies that are built in.
 
 ghost use Rattle.std.specs.Prelude.{◌≡◌, ◌+◌, ◌-◌, ◌*◌, ◌^◌, ◌≤◌, min, IfOk};
-ghost use Rattle.pc_policy.specs.Rankings.{rank_named, ranks_named, ranks_of};
+ghost use Rattle.pc_policy.specs.Rankings.{facts_of, rank_named, ranks_named, ranks_of};
 
 use crate::named::OrderName;
 use crate::policy::Policy;
 use pc_messages::{Cpu, Level, Reported, Tid};
+use pc_rank::Facts;
 use std::alloc::AllocError;
 
 /// The highest level.
@@ -53,6 +54,19 @@ fn named_rank(rows: &[(Tid, u64)], thread: Tid) -> Option<u64>
     None
 }
 
+/// What an expression sees of a thread.
+fn facts_of(cpu: Cpu, thread: Tid, reported: &Reported) -> Facts
+    ensures { result ≡ facts_of cpu thread reported.now }
+{
+    Facts {
+        level: u64::from(reported.level.get()),
+        ran: reported.ran,
+        thread: u64::from(thread.0),
+        cpu: u64::from(cpu.0),
+        allowed: u64::from(reported.mask.bits().count_ones()),
+    }
+}
+
 impl Order {
     /// The same policy.
     pub fn try_copy(&self) -> Result<Order, AllocError>
@@ -68,12 +82,13 @@ impl Order {
 impl Policy for OrderName {
     ghost ranking = { ranks_named };
 
-    fn rank(&self, _cpu: Cpu, _thread: Tid, reported: &Reported) -> Option<u64> {
+    fn rank(&self, cpu: Cpu, thread: Tid, reported: &Reported) -> Option<u64> {
         match self {
             OrderName::Levels => Some(below_highest(reported.level)),
             OrderName::Fifo => Some(0),
             OrderName::LeastRan => Some(reported.ran),
             OrderName::LevelsThenLeastRan => Some(level_then_ran(reported.level, reported.ran)),
+            OrderName::Rank(expression) => expression.rank(&facts_of(cpu, thread, reported)),
         }
     }
 }

@@ -13,7 +13,8 @@ use Rattle.pc_draw.specs.declared.ticks.Axis.{Axis}
 use Rattle.pc_draw.specs.declared.ticks.Axis.TheVariants.{Lines, Ticks}
 use Rattle.pc_draw.specs.declared.part.Interval.{Interval}
 use Rattle.pc_draw.specs.declared.part.DrawnPart.{DrawnPart}
-use Rattle.pc_policy.specs.Names.{is_usual, policy_text}
+use Rattle.pc_policy.specs.Names as names
+use Rattle.pc_policy.specs.Names.{is_usual}
 use Rattle.pc_policy.specs.declared.named.PolicyName.{PolicyName}
 use Rattle.pc_program.specs.Numbers.{IsWritten, SpellsNone}
 use Rattle.pc_program.specs.Seeds.{AreNumbers}
@@ -215,11 +216,11 @@ IsNoNumbers option word rows = (first_of option rows ≡ Some word) × SpellsNon
 -- the policy that the text behind an option names: the usual one where there is no text
 abbrev pub IsPolicy : Option Text → PolicyName → Type 0
 IsPolicy None policy = is_usual policy ≡ true
-IsPolicy (Some text) policy = text ≡ policy_text policy
+IsPolicy (Some text) policy = names.IsPolicy text policy
 
 -- the text behind an option names no policy
 abbrev pub NamesNone : Text → Type 0
-NamesNone text = (policy : PolicyName) → text ≡ policy_text policy → ⊥
+NamesNone text = (policy : PolicyName) → names.IsPolicy text policy → ⊥
 
 -- what is wrong with the words of a command that clap takes: a part of a picture that is no numbers, a policy of a
 -- run that is none, or several runs that cannot be asked for so
@@ -227,12 +228,12 @@ abbrev pub IsWrongIn : Option (Text × List Row) → CommandFault → Type 0
 IsWrongIn met OutOfMemory = Unit {0}
 IsWrongIn met (Clap error) = Unit {0}
 IsWrongIn None (BadNumbers option word) = ⊥
-IsWrongIn None (BadPolicy word) = ⊥
+IsWrongIn None (BadPolicy word why) = ⊥
 IsWrongIn None (BadRuns why) = ⊥
 IsWrongIn (Some met) (BadNumbers option word) =
     (met.0 ≡ codes "draw") × ((option.now ≡ codes "cpus") ⊎ (option.now ≡ codes "lines"))
     × IsNoNumbers option.now (string_bytes word) met.1
-IsWrongIn (Some met) (BadPolicy word) =
+IsWrongIn (Some met) (BadPolicy word why) =
     (met.0 ≡ codes "run") × (first_of (codes "policy") met.1 ≡ Some (string_bytes word))
     × NamesNone (string_bytes word)
 IsWrongIn (Some met) (BadRuns why) = (met.0 ≡ codes "run") × AreNoRuns met.1 why
@@ -273,7 +274,7 @@ IsAsked (Some met) (Lab given variants each csv picture script) =
 abbrev pub IsRefusal : Kinds → CommandFault → Type 0
 IsRefusal kinds OutOfMemory = Unit {0}
 IsRefusal kinds (BadNumbers option word) = kinds ≡ []
-IsRefusal kinds (BadPolicy word) = kinds ≡ []
+IsRefusal kinds (BadPolicy word why) = kinds ≡ []
 IsRefusal kinds (BadRuns why) = kinds ≡ []
 IsRefusal kinds (Clap error) = (kind_of error ≢ kind.OutOfMemory) × IsAmong (kind_of error) kinds
 

@@ -2,7 +2,6 @@
 
 ghost use Rattle.std.specs.Prelude.{◌≡◌, ◌↔◌, ◌⊎◌, [], Some, None, Err, IfOk, IfErr, IsTrue, map, option_map};
 ghost use Rattle.std.specs.Prelude.{string_bytes, codes, MatchOption};
-ghost use Rattle.pc_policy.specs.Names.{policy_text};
 ghost use Rattle.clap.specs.Walk.{first_of, one_of, rows_of};
 ghost use Rattle.clap.specs.Simple.{subcommand_of, subcommand_rows_of};
 ghost use Rattle.clap.specs.Faults.{fault_of};
@@ -22,7 +21,7 @@ use clap::{ArgMatches, Command as Parser, Error};
 use parsers::parser_for;
 pub(crate) use parsers::{FIRST_WORDS, command_named};
 use pc_draw::{Axis, DrawnPart, Interval};
-use pc_policy::PolicyName;
+use pc_policy::{OrderFault, PolicyName};
 use std::alloc::{AllocError, Global};
 use std::convert::AsStr;
 use thiserror::Error as Fault;
@@ -127,7 +126,7 @@ pub enum CommandFault {
     BadNumbers { option: &'static str, word: String },
     /// The word behind `--policy` names none.
     #[error("--policy names no policy")]
-    BadPolicy { word: String },
+    BadPolicy { word: String, fault: OrderFault },
     /// Several runs are asked for, but not so that they can be.
     #[error(transparent)]
     BadRuns(RunsFault),
@@ -451,13 +450,6 @@ fn runs_of(matches: &ArgMatches<'_>) -> Option<u32>
     matches.get_one::<u32>("runs")
 }
 
-/// The policy that a word of the command line names.
-fn policy_named(word: &str) -> Option<PolicyName>
-    ensures { MatchOption result (NamesNone word.now) (λ policy. word.now ≡ policy_text policy) }
-{
-    PolicyName::named(word.as_bytes())
-}
-
 /// What every agent goes by: the usual policy where none is named.
 fn policy_of(alloc: Global, matches: &ArgMatches<'_>) -> Result<PolicyName, CommandFault>
     ensures named { IfOk result (IsPolicy (first_of (codes "policy") (rows_of (found_of matches.now)))) }
@@ -467,11 +459,11 @@ fn policy_of(alloc: Global, matches: &ArgMatches<'_>) -> Result<PolicyName, Comm
     let Some(word) = matches.get_str("policy") else {
         return Ok(PolicyName::USUAL);
     };
-    match policy_named(word) {
-        Some(policy) => Ok(policy),
-        None => {
+    match PolicyName::read(word.as_bytes()) {
+        Ok(policy) => Ok(policy),
+        Err(fault) => {
             let word = String::from_str(alloc, word)?;
-            Err(CommandFault::BadPolicy { word })
+            Err(CommandFault::BadPolicy { word, fault })
         }
     }
 }

@@ -4,7 +4,7 @@ ghost use Rattle.std.specs.Prelude.{◌≡◌};
 
 use crate::command_line::{CommandFault, FIRST_WORDS, command_named, first_word};
 use pc_pen::{Escaped, QuotedWord};
-use pc_policy::OrderName;
+use pc_policy::{OrderFault, OrderName};
 use pc_script::Orders;
 use std::alloc::Global;
 use std::convert::AsStr;
@@ -75,16 +75,33 @@ fn write_numbers<W: Write>(text: &str, writer: &mut W) -> io::Result<()> {
     Ok(())
 }
 
-/// Whether the two words of a policy stand there as two.
+/// Whether the words of a policy stand there as several.
 fn splits_a_policy<S: AsStr>(words: &[S]) -> bool {
     let mut is_order = false;
+    let mut is_rank = false;
     for word in words {
-        if is_order && word.as_str() == "exact" {
+        let word = word.as_str();
+        if is_rank || (is_order && word == "exact") {
             return true;
         }
-        is_order = OrderName::named(word.as_str().as_bytes()).is_some();
+        is_rank = word == "rank";
+        is_order = OrderName::named(word.as_bytes()).is_some();
     }
     false
+}
+
+/// Writes what a policy is, or where an expression is none.
+fn write_policy_wanted<W: Write>(fault: OrderFault, writer: &mut W) -> io::Result<()> {
+    match fault {
+        OrderFault::NoOrder => {
+            let orders = Orders::in_words();
+            write!(
+                writer,
+                "{orders} is wanted, or one of them as 'fifo exact'; "
+            )
+        }
+        OrderFault::Rank(fault) => write!(writer, "in the expression, {fault}; "),
+    }
 }
 
 /// Writes on one line what is wrong with words that are no command, since of this fault: which word it is, what was
@@ -108,7 +125,7 @@ pub fn write_command_trouble<S: AsStr, W: Write>(
             if splits_a_policy(words) {
                 write!(
                     writer,
-                    "two words of a policy stand in quotes, as 'fifo exact'; "
+                    "the words of a policy stand in quotes, as 'fifo exact'; "
                 )?;
             }
         }
@@ -120,14 +137,10 @@ pub fn write_command_trouble<S: AsStr, W: Write>(
                 "a number without a 0 in front is wanted, as 2, or two with the lower first, as 1-3; "
             )?;
         }
-        CommandFault::BadPolicy { word } => {
+        CommandFault::BadPolicy { word, fault } => {
             let quoted = QuotedWord(word.as_bytes());
-            let orders = Orders::in_words();
-            write!(
-                writer,
-                "pc-sim: --policy \"{quoted}\": {orders} is wanted, "
-            )?;
-            write!(writer, "or one of them as 'fifo exact'; ")?;
+            write!(writer, "pc-sim: --policy \"{quoted}\": ")?;
+            write_policy_wanted(*fault, writer)?;
         }
         CommandFault::BadRuns(fault) => write!(writer, "pc-sim: {fault}; ")?,
     }

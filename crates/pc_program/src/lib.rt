@@ -33,7 +33,7 @@ pub use ending::{BadSettings, Ending, Failure, Unsettled};
 pub use forms::{ScriptForm, make, make_flushed, replay_flushed, run_flushed, run_script};
 pub use input::{MOST_SETTINGS, read_settings};
 pub use pc_draw::{Axis, DrawnPart, Interval, Missing};
-pub use pc_policy::{AgentPolicy, Order, OrderName, PolicyName, Stealing};
+pub use pc_policy::{AgentPolicy, Order, OrderFault, OrderName, PolicyName, Stealing};
 pub use pc_script::Helper;
 pub use pc_seeds::{Manner, Stall};
 pub use pc_settings::{

@@ -7,7 +7,7 @@ use Rattle.pc_rank.specs.Grammar.{IsExpression}
 use Rattle.pc_rank.specs.Inner.Cutting.{tokens_of}
 use Rattle.pc_rank.specs.Inner.Limits.{IsNoTree, IsPlaced, IsTooMany}
 use Rattle.pc_rank.specs.Inner.Reading.{whole}
-use Rattle.pc_rank.specs.Reading.{IsReadable, IsText, Refuses, expression_of, nodes, limited}
+use Rattle.pc_rank.specs.Reading.{IsOfLongTree, IsReadable, IsText, Refuses, expression_of, nodes, limited}
 use Rattle.pc_rank.specs.Texts.{text_of}
 use Rattle.pc_rank.specs.Tokens.{is_node}
 use Rattle.pc_rank.specs.declared.fault.RankFault.{RankFault}
@@ -66,7 +66,11 @@ readable text tokens a has e few short =
     record { text = text_is_read text a (text_is text tokens a has e); short = short; few = few_nodes tokens a e few }
 
 pub too_long : (text : List ℕ) (tokens : List Token) (a : Tree) → HasTokens text tokens → whole tokens ≡ Ok a → 512 < length (text_of a) → Refuses text fault.TooLong
-too_long text tokens a has e long = inr (λ b h. subst (λ c. 512 < length (text_of c)) (only text tokens a has e b h) long)
+too_long text tokens a has e long = inr (record {
+  tree = a;
+  text_is = text_is text tokens a has e;
+  long = λ b h. subst (λ c. 512 < length (text_of c)) (only text tokens a has e b h) long;
+})
 
 -- a text has one expression at most
 pub one_tree : (text : List ℕ) (a b : Tree) → IsText text a → IsText text b → a ≡ b
@@ -137,7 +141,8 @@ reads_it text tokens a has e short few written =
 not_read : (text : List ℕ) (fault : RankFault) (a : Tree) → Refuses text fault → length text ≤ 512 → IsText text a → IsReadable a → ⊥
 not_read text fault.TooLong a refused short is readable =
     let written = readable.short in
-    ⊎_elim (λ long. absurd (omega (arith, long, short))) (λ long. omega (arith, long a is, written)) refused
+    let not_long : IsOfLongTree text → ⊥ = λ of. omega (arith, of.long a is, written) in
+    ⊎_elim (λ long. absurd (omega (arith, long, short))) not_long refused
 not_read text (fault.TooManyNodes at) a refused short is readable = let few = readable.few in omega (arith, refused a is, few)
 not_read text (fault.TooDeep at) a refused short is readable = refused a is
 not_read text (fault.Wanted at wanted) a refused short is readable = refused a is

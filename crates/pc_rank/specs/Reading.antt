@@ -51,10 +51,16 @@ limited (Err halt) = None
 unfoldable pub expression_of : List ℕ → Option Tree
 expression_of text = if leb (length text) 512 then limited (whole (tokens_of text)) else None
 
--- Why no expression was read: the text is past 512 bytes, or would be written in more, or is of no expression up to 64
--- nodes, or of none at all
+-- the text is of an expression, and what it is of would be written in more than 512 bytes
+pub record IsOfLongTree (text : List ℕ) : Type 0 where
+  pub tree : Tree
+  pub text_is : IsText text tree
+  pub long : (a : Tree) → IsText text a → 512 < length (text_of a)
+
+-- Why no expression was read: the text is past 512 bytes, or its expression would be written in more, or the text is of
+-- no expression up to 64 nodes, or of none at all
 abbrev pub Refuses : List ℕ → RankFault → Type 0
-Refuses text fault.TooLong = (512 < length text) ⊎ ((a : Tree) → IsText text a → 512 < length (text_of a))
+Refuses text fault.TooLong = (512 < length text) ⊎ IsOfLongTree text
 Refuses text (fault.TooManyNodes at) = (a : Tree) → IsText text a → 64 < nodes a
 Refuses text (fault.TooDeep at) = (a : Tree) → IsText text a → ⊥
 Refuses text (fault.Wanted at wanted) = (a : Tree) → IsText text a → ⊥

@@ -1,10 +1,11 @@
 //! Expressions.
 
-ghost use Rattle.std.specs.Prelude.{◌≡◌, ◌≤◌, IfErr, IfOk, length};
+ghost use Rattle.std.specs.Prelude.{◌≡◌, ◌<◌, ◌≤◌, Err, IfErr, IfOk, length};
 ghost use Rattle.std.specs.Result.{result_ok};
 ghost use Rattle.pc_rank.specs.Expressions.{Tree};
 ghost use Rattle.pc_rank.specs.Layout.{layout};
 ghost use Rattle.pc_rank.specs.Meaning.{rank_by};
+ghost use Rattle.pc_rank.specs.declared.fault.RankFault.TheVariants.{TooLong};
 ghost use Rattle.pc_rank.specs.Reading.{IsReadable, IsText, Refuses, expression_of, nodes};
 
 use crate::code::Code;
@@ -62,7 +63,9 @@ impl Expression {
         ensures only { IfOk result (λ e. (a : Tree) → IsText text.now a → e ≡ a) }
         // What is within the limits is read.
         ensures complete { IfErr result (λ fault. Refuses text.now fault) }
-        // So what is read is a function of the text.
+        // A text that is too long is refused first,
+        ensures first { 512 < length text.now → result ≡ Err TooLong }
+        // and what is read is a function of the text.
         ensures reads { result_ok result ≡ expression_of text.now }
     {
         if text.len() > Expression::LONGEST {

@@ -9,6 +9,7 @@ use Rattle.pc_calls.specs.declared.call.AgentCall.TheVariants as agent_call
 use Rattle.pc_calls.specs.declared.call.EnvCall.TheVariants as env
 use Rattle.pc_calls.specs.declared.event.Event.TheVariants as event
 use Rattle.pc_script.specs.Grammar.{AsksFor, HasNoReply, Spells, row_of, words_of}
+use Rattle.pc_script.proofs.Spellings.{begun}
 use Rattle.pc_script.specs.Scripts as script
 use Rattle.pc_script.specs.Scripts.{Script}
 use Rattle.pc_script.specs.Text.{words}
@@ -96,7 +97,9 @@ speaks line word more spelled behind (inl none) = not_nothing word more (sym non
 speaks line word more spelled behind (inr comment) = apart 35 (get_or word 0 0) behind (sym (comment_begins line comment) ∙ ap first_byte spelled)
 
 pub command_speaks : (version : Version) (line : List ℕ) (given : Command) → AsksFor version (words line) given → HasNoReply line → ⊥
-command_speaks version line given asks = speaks line (row_of given).name (words_of (row_of given).fields) asks.1.1 (name_begins given)
+command_speaks version line given asks =
+    let front = begun (words line) given asks.1 in
+    speaks line (row_of given).name front.behind front.is (name_begins given)
 
 version_speaks : (version : Version) (line : List ℕ) → Names version line → HasNoReply line → ⊥
 version_speaks One line names = absurd names

@@ -1,5 +1,8 @@
 -- A load without a fault is played within the ranges of limits, and variants without a fault have values in theirs.
-use Rattle.std.proofs.Common.{◌≡◌, ◌∙◌, ◌<◌, ◌≤◌, ◌+◌, ◌-◌, ◌^◌, ◌&&◌, not, ℕ, ℤ, zero, suc, pos, negsuc, nat_abs, max, min, Bool, true, false, ltb, leb, Contains, List, [], ◌∷◌, ◌++◌, length, get_or, map, None, refl, sym, subst, arith}
+use Rattle.std.proofs.Common.{◌≡◌, ◌∙◌, ◌<◌, ◌≤◌, ◌+◌, ◌-◌, ◌^◌, ◌&&◌, not, ℕ, ℤ, zero, suc, pos, negsuc, nat_abs, max, min, Bool, true, false, ltb, leb, Contains, List, [], ◌∷◌, ◌++◌, length, get_or, map, None, All, refl, sym, subst, arith}
+use Rattle.std.proofs.lemmas.List.Elements.{All-cons, All-head, All-nil, All-tail}
+use Rattle.pc_policy.proofs.Policies.{named_again}
+use Rattle.pc_policy.specs.Names.{IsReadAgain, order_of}
 use Rattle.std.proofs.lemmas.Bool.{and_from, and_parts, false≢true, le-leb, leb-true, ltb-false, not-false, not_from_true}
 use Rattle.std.proofs.lemmas.Option.{none-some}
 use Rattle.pc_calls.specs.Conditions.{first_of}
@@ -8,7 +11,7 @@ use Rattle.pc_calls.specs.declared.limits.Profile.TheVariants.{One, Two}
 use Rattle.pc_calls.specs.declared.limits.TheConstants.{MOST_CPUS, MOST_THREADS, MOST_THREADS_TWO}
 use Rattle.pc_lab.specs.Limits.{limits_for}
 use Rattle.pc_load.specs.Loads.{Demand, demand, end_of, is_between, thread_faults}
-use Rattle.pc_load.specs.Variants.{Choice, bad_variants, choice_of, is_new, is_variant, or_plain, variant_fault}
+use Rattle.pc_load.specs.Variants.{Choice, bad_variants, choice_of, is_new, is_variant, or_plain, variant_fault, plain, plain_order}
 use Rattle.pc_load.specs.declared.load.LoadFault.TheVariants.{BadCpus, BadUntil, TooManyThreads}
 use Rattle.pc_load.specs.declared.load.TheConstants.{LAST_TICK}
 use Rattle.pc_load.specs.declared.variant.TheConstants.{MOST_VARIANTS}
@@ -98,3 +101,26 @@ variant_good choices variants variant chosen made there =
     subst (λ cs. variant_fault cs ≡ None) (sym (chosen ∙ made.are)) (or_plain_fine made.asked made.fine) in
     let none = none_first (ltb MOST_VARIANTS (length (map choice_of variants))) TooMany (bad_variants [] 0 (map choice_of variants)) fine in
     subst (λ v. is_variant (choice_of v) ≡ true) there.2 (variant_there variants [] 0 there.0 variant none.1 there.1)
+
+-- each order of a choice is one that a text names
+abbrev IsSpelled : Choice → Type 0
+IsSpelled choice = (text : List ℕ) × (choice.order ≡ order_of text)
+
+plain_spelled : (asked : List Choice) → All IsSpelled asked → All IsSpelled (or_plain asked)
+plain_spelled [] spelled = All-cons IsSpelled plain [] (plain_order, refl) (All-nil IsSpelled)
+plain_spelled (choice ∷ asked) spelled = spelled
+
+spelled_there : (variants : List Variant) → All IsSpelled (map choice_of variants) → (k : ℕ) (d : Variant) → k < length variants
+    → IsSpelled (choice_of (get_or variants k d))
+spelled_there [] spelled k d below = absurd (omega (arith, below))
+spelled_there (variant ∷ variants) spelled zero d below = All-head IsSpelled (choice_of variant) (map choice_of variants) spelled
+spelled_there (variant ∷ variants) spelled (suc k) d below =
+    spelled_there variants (All-tail IsSpelled (choice_of variant) (map choice_of variants) spelled) k d (omega (arith, below))
+
+pub variant_again : (choices : List Choice) (variants : List Variant) (variant : Variant) → map choice_of variants ≡ choices → AreMade choices
+    → Contains variants variant → IsReadAgain variant.policy.order
+variant_again choices variants variant chosen made there =
+    let all : All IsSpelled (map choice_of variants) =
+    subst (All IsSpelled) (sym (chosen ∙ made.are)) (plain_spelled made.asked made.spelled) in
+    let its = spelled_there variants all there.0 variant there.1 in
+    subst (λ v. IsReadAgain v.policy.order) there.2 (named_again its.0 (get_or variants there.0 variant).policy.order (sym its.1))

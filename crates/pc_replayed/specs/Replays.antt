@@ -3,7 +3,7 @@ use Rattle.std.specs.Prelude.{◌≡◌, Bool, true, false, List, [], ◌∷◌,
 use Rattle.std.specs.Prelude.{None, Some, codes}
 use Rattle.pc_calls.specs.declared.limits.Limits.{Limits}
 use Rattle.pc_trial.specs.Comparing.{IsScript, IsScriptOf}
-use Rattle.pc_policy.specs.Names.{is_usual}
+use Rattle.pc_policy.specs.Names.{IsReadAgain, is_usual, order_of}
 use Rattle.pc_lab.specs.Limits.{limits_for}
 use Rattle.pc_lab.specs.Moments.{IsNoAnswer, Moment}
 use Rattle.pc_load.specs.Loads.{Demand, Need, demand, end_of, fault_of}
@@ -98,17 +98,18 @@ pub record IsMade (load : Demand) : Type 0 where
   pub fine : fault_of (demand cpus until threads) ≡ None
   pub is : load ≡ demand cpus (end_of until) threads
 
--- the variants are such as `Variants::new` makes
+-- the variants are such as `Variants::new` makes: what was asked for has no fault, and each order is of a text
 pub record AreMade (choices : List Choice) : Type 0 where
   pub asked : List Choice
   pub fine : variant_fault asked ≡ None
+  pub spelled : All (λ choice. (text : List ℕ) × (choice.order ≡ order_of text)) asked
   pub are : choices ≡ or_plain asked
 
 -- the script of a run that a load had under a variant whose values are in their ranges replays as the run went
 abbrev pub ScriptsReplay : Type 0
 ScriptsReplay =
     (load : Demand) (variant : Variant) (text : List ℕ) (script : IsScript load variant text)
-    → IsMade load → is_variant (choice_of variant) ≡ true
+    → IsMade load → is_variant (choice_of variant) ≡ true → IsReadAgain variant.policy.order
     → IsReplay (opening_of (limits_for load) variant.policy) script.is_played.moments script.is_played.plain text
 
 -- the script of the one of several variants that has a name replays as its run went

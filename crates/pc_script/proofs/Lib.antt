@@ -3,6 +3,8 @@ pub mod Notices
 pub mod Numerals
 pub mod Pieces
 pub mod Splits
+pub mod Spaces
+pub mod Joining
 pub mod Readback
 pub mod Replays
 pub mod Spellings

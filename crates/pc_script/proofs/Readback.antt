@@ -1,5 +1,5 @@
 -- The line that a command is written as asks for that command.
-use Rattle.std.proofs.Common.{◌≡◌, ℕ, zero, suc, ◌<◌, ◌≤◌, ◌^◌, Bool, true, false, not, ◌&&◌, List, [], ◌∷◌, ◌++◌, length, get_or, cond, eqb, filter, Some, None, codes, decimal, refl, ap, ◌∙◌, arith}
+use Rattle.std.proofs.Common.{◌≡◌, ℕ, zero, suc, ◌<◌, ◌≤◌, ◌^◌, Bool, true, false, not, ◌&&◌, List, [], ◌∷◌, ◌++◌, length, get_or, cond, eqb, filter, Some, None, codes, decimal, refl, sym, ap, subst, ◌∙◌, arith, append-nil}
 use Rattle.std.specs.List.{slice_split}
 use Rattle.std.specs.Str.Parse.{AllDigits}
 use Rattle.std.proofs.lemmas.Bool.{ne_eqb}
@@ -9,32 +9,16 @@ use Rattle.std.proofs.lemmas.Str.Parse.{digit_from_value}
 use Rattle.pc_calls.specs.declared.call.AgentCall.TheVariants as agent_call
 use Rattle.pc_calls.specs.declared.call.EnvCall.TheVariants as env
 use Rattle.pc_calls.specs.declared.event.Event.TheVariants as event
-use Rattle.pc_script.specs.Grammar.{Field, Processors, Processor, Queue, Level, Count, Mask, Index, Thread, State, Target, Failure, Order, Exactness, field_words, IsInRange, words_of, AreInRange, row_of, command_text, spaced, Spells}
+use Rattle.pc_script.specs.Grammar.{Field, Processors, Processor, Queue, Level, Count, Mask, Index, Thread, State, Target, Failure, Policy, field_words, IsInRange, words_of, AreInRange, row_of, command_text, Spells}
 use Rattle.pc_script.specs.Text.{words}
 use Rattle.pc_script.specs.declared.command.Command.{Command}
 use Rattle.pc_script.specs.declared.command.Command.TheVariants as command
-use Rattle.pc_policy.proofs.Orders.{of_each}
-use Rattle.pc_policy.specs.Names.{order_word}
+use Rattle.pc_policy.proofs.Policies.{policy_neat, written_policy}
+use Rattle.pc_policy.specs.Names.{IsPolicy, IsReadAgain, policy_text}
+use Rattle.pc_policy.specs.declared.named.PolicyName.{PolicyName}
 use Rattle.pc_script.specs.declared.command.Read.TheVariants as read
 use Rattle.pc_script.proofs.Numerals.{own}
-
--- P holds of each element
-abbrev Each : {X : Type 0} → (X → Type 0) → List X → Type 0
-Each P [] = Unit {0}
-Each P (x ∷ xs) = P x × Each P xs
-
-each_at : {X : Type 0} (P : X → Type 0) (xs : List X) → Each P xs → (k : ℕ) (d : X) → k < length xs → P (get_or xs k d)
-each_at P [] each k d h = absurd (omega (arith, h))
-each_at P (x ∷ xs) each zero d h = each.0
-each_at P (x ∷ xs) each (suc k) d h = each_at P xs each.1 k d (omega (arith, h))
-
--- a byte is no space
-abbrev IsNoSpace : ℕ → Type 0
-IsNoSpace b = eqb b 32 ≡ false
-
--- a word is not empty, and has no space
-abbrev IsWord : List ℕ → Type 0
-IsWord word = (0 < length word) × Each IsNoSpace word
+use Rattle.pc_script.proofs.Spaces.{Each, IsNoSpace, IsWord, has_words, neat_behind, neat_text, neat_words, words_spaced}
 
 -- the same by evaluation
 abbrev has_none : List ℕ → Bool
@@ -60,24 +44,6 @@ word_is (b ∷ bs) h = (omega arith, all_none (b ∷ bs) h)
 all_both : (P : List ℕ → Type 0) (xs ys : List (List ℕ)) → Each P xs → Each P ys → Each P (xs ++ ys)
 all_both P [] ys none all = all
 all_both P (x ∷ xs) ys all more = (all.0, all_both P xs ys all.1 more)
-
--- ---- words with a space between each two
-
-kept : (word : List ℕ) (parts : List (List ℕ)) → 0 < length word
-    → filter (λ w. not (eqb (length w) 0)) (word ∷ parts) ≡ word ∷ filter (λ w. not (eqb (length w) 0)) parts
-kept word parts some =
-    ap (λ none. cond (not none) (word ∷ filter (λ w. not (eqb (length w) 0)) parts) (filter (λ w. not (eqb (length w) 0)) parts))
-    (ne_eqb (length word) 0 (λ none. omega (arith, some, none)))
-
-words_spaced : (all : List (List ℕ)) → Each IsWord all → words (spaced all) ≡ all
-unfolding words
-words_spaced [] are = refl
-words_spaced (word ∷ []) are =
-    ap (filter (λ w. not (eqb (length w) 0))) (slice_split_none (λ b. eqb b 32) word (each_at IsNoSpace word are.0.1)) ∙ kept word [] are.0.0
-words_spaced (word ∷ next ∷ more) are =
-    ap (filter (λ w. not (eqb (length w) 0))) (slice_split_at (λ b. eqb b 32) word 32 (spaced (next ∷ more)) (each_at IsNoSpace word are.0.1) refl)
-    ∙ kept word (slice_split (λ b. eqb b 32) (spaced (next ∷ more))) are.0.0
-    ∙ ap (λ rest. word ∷ rest) (words_spaced (next ∷ more) are.1)
 
 -- ---- the words of a command
 
@@ -108,9 +74,9 @@ fields_are (Target None) h = (word_is (codes "-") refl, tt)
 fields_are (Target (Some cpu)) h = (wide (2 ^ 8) cpu (omega arith) h, tt)
 fields_are (Failure true) h = (word_is (codes "fail") refl, tt)
 fields_are (Failure false) h = tt
-fields_are (Order named) h = (word_is (order_word named) (of_each is_word refl named), tt)
-fields_are (Exactness true) h = (word_is (codes "exact") refl, tt)
-fields_are (Exactness false) h = tt
+fields_are (Policy named) h =
+    let n = policy_neat named h in
+    subst (Each IsWord) (sym (neat_words (policy_text named) n)) (has_words (policy_text named) n).each
 
 all_are : (fields : List Field) → AreInRange fields → Each IsWord (words_of fields)
 all_are [] h = tt
@@ -147,6 +113,25 @@ name_is (command.Read (read.Complete cpu thread)) = refl
 name_is (command.Policy named) = refl
 name_is (command.Mend cpu) = refl
 
+-- the words of the line that a command is written as are its row's
+spelled_back : (given : Command) → AreInRange (row_of given).fields → words (command_text given) ≡ (row_of given).name ∷ words_of (row_of given).fields
+spelled_back given h =
+    words_spaced ((row_of given).name ∷ words_of (row_of given).fields) (word_is (row_of given).name (name_is given), all_are (row_of given).fields h)
+
+-- its words behind `policy` are those of a text of the policy
+policy_back : (named : PolicyName) → AreInRange (row_of (command.Policy named)).fields → Spells (words (command_text (command.Policy named))) (command.Policy named)
+policy_back named h =
+    let text = policy_text named in
+    let back = spelled_back (command.Policy named) h ∙ ap (λ rest. codes "policy" ∷ rest) (append-nil (words text)) in
+    (words text, back, subst (λ t. IsPolicy t named) (sym (neat_text text (policy_neat named h.0))) (written_policy named h.0))
+
+-- the line of a policy is its text behind `policy`
+pub policy_line : (named : PolicyName) → IsReadAgain named.order → command_text (command.Policy named) ≡ codes "policy " ++ policy_text named
+policy_line named h = neat_behind (codes "policy") (policy_text named) (policy_neat named h)
+
 pub reads_back : (given : Command) → AreInRange (row_of given).fields → Spells (words (command_text given)) given
-reads_back given h =
-    (h, words_spaced ((row_of given).name ∷ words_of (row_of given).fields) (word_is (row_of given).name (name_is given), all_are (row_of given).fields h))
+reads_back (command.Policy named) h = policy_back named h
+reads_back (command.Enclave limits) h = (h, spelled_back (command.Enclave limits) h)
+reads_back (command.Event e) h = (h, spelled_back (command.Event e) h)
+reads_back (command.Read question) h = (h, spelled_back (command.Read question) h)
+reads_back (command.Mend cpu) h = (h, spelled_back (command.Mend cpu) h)

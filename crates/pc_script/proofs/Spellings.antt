@@ -1,5 +1,6 @@
 -- The fields that words spell, and the command that they make.
 use Rattle.std.proofs.Common.{◌≡◌, ℕ, zero, suc, ◌<◌, ◌≤◌, ◌^◌, Bool, true, false, List, [], ◌∷◌, ◌++◌, Option, Some, None, ◌&&◌, get_or, codes, decimal, refl, sym, subst, ap, ◌∙◌, arith, append-nil}
+use Rattle.std.specs.Bool.{MatchBool}
 use Rattle.std.specs.Option.{IfSome}
 use Rattle.std.specs.Str.{bytes_eq}
 use Rattle.std.proofs.lemmas.Bool.{true≢false}
@@ -7,17 +8,20 @@ use Rattle.std.proofs.lemmas.Fmt.{decimal_injective, decimal_digit, first_decima
 use Rattle.pc_calls.specs.declared.call.AgentCall.TheVariants as agent_call
 use Rattle.pc_calls.specs.declared.call.EnvCall.TheVariants as env
 use Rattle.pc_calls.specs.declared.event.Event.TheVariants as event
-use Rattle.pc_script.specs.Grammar.{Field, Processors, Processor, Queue, Level, Count, Mask, Index, Thread, State, Target, Failure, Order, Exactness, field_words, state_word, target_word, thread_name, IsInRange, words_of, AreInRange, row_of, Spells, IsOf, AsksFor}
-use Rattle.pc_policy.proofs.Orders.{same_order}
-use Rattle.pc_policy.specs.Names.{order_word}
-use Rattle.pc_script.specs.Inner.Readings.{Kind, failure, exactness, kind_of, kinds_of, is_word}
-use Rattle.pc_script.specs.Inner.Verbs.{back, name_of, kinds}
+use Rattle.pc_script.specs.Grammar.{Field, Processors, Processor, Queue, Level, Count, Mask, Index, Thread, State, Target, Failure, Policy, field_words, state_word, target_word, thread_name, IsInRange, words_of, AreInRange, row_of, spaced, Spells, IsOf, AsksFor}
+use Rattle.pc_policy.proofs.Policies.{one_policy, policy_neat, written_policy}
+use Rattle.pc_policy.specs.Names.{IsPolicy, IsReadAgain, policy_text}
+use Rattle.pc_policy.specs.declared.named.PolicyName.{PolicyName}
+use Rattle.pc_script.specs.Inner.Readings.{Kind, failure, kind_of, kinds_of, is_word}
+use Rattle.pc_script.specs.Inner.Verbs.{SpellsNone, back, name_of, kinds}
 use Rattle.pc_script.specs.declared.command.Command.{Command}
 use Rattle.pc_script.specs.declared.command.Command.TheVariants as command
 use Rattle.pc_script.specs.declared.command.Read.TheVariants as read
 use Rattle.pc_script.specs.declared.grammar.Verb.{Verb}
 use Rattle.pc_script.specs.declared.grammar.Verb.TheVariants as verb
+use Rattle.pc_script.specs.Text.{words}
 use Rattle.pc_script.specs.declared.version.Version.{Version}
+use Rattle.pc_script.proofs.Spaces.{neat_text}
 
 -- ---- one field
 
@@ -34,8 +38,7 @@ one_word (Thread thread) h = (thread_name thread, refl)
 one_word (State is_ready) h = (state_word is_ready, refl)
 one_word (Target cpu) h = (target_word cpu, refl)
 one_word (Failure fails) h = cc
-one_word (Order named) h = (order_word named, refl)
-one_word (Exactness exact) h = cc
+one_word (Policy named) h = cc
 
 -- such a field takes the first word
 pub parts : (field : Field) (fields : List Field) (word : List ℕ) (rest : List (List ℕ)) → is_word (kind_of field) ≡ true
@@ -68,6 +71,13 @@ same_target None (Some cpu) h k is = absurd (no_dash cpu k (sym is))
 same_target (Some cpu) None h k is = absurd (no_dash cpu h is)
 same_target (Some cpu) (Some other) h k is = ap Some (decimal_injective cpu other (omega (arith, h)) (omega (arith, k)) is)
 
+-- policies that are written alike
+same_policy : (one other : PolicyName) → IsReadAgain one.order → IsReadAgain other.order → words (policy_text one) ≡ words (policy_text other) → one ≡ other
+same_policy one other h k is =
+    let texts : policy_text one ≡ policy_text other =
+    sym (neat_text (policy_text one) (policy_neat one h)) ∙ ap spaced is ∙ neat_text (policy_text other) (policy_neat other k) in
+    one_policy (policy_text one) one other (written_policy one h) (subst (λ text. IsPolicy text other) (sym texts) (written_policy other k))
+
 -- fields of one kind that have the same words are equal
 same_field : (one other : Field) → kind_of one ≡ kind_of other → IsInRange one → IsInRange other → field_words one ≡ field_words other → one ≡ other
 same_field (Processors a) (Processors b) e h k is = ap Processors (same_number (2 ^ 8) a b (omega arith) h k is)
@@ -89,11 +99,7 @@ same_field (Failure true) (Failure true) e h k is = refl
 same_field (Failure false) (Failure false) e h k is = refl
 same_field (Failure true) (Failure false) e h k is = cc
 same_field (Failure false) (Failure true) e h k is = cc
-same_field (Order a) (Order b) e h k is = ap Order (same_order a b (alone is))
-same_field (Exactness true) (Exactness true) e h k is = refl
-same_field (Exactness false) (Exactness false) e h k is = refl
-same_field (Exactness true) (Exactness false) e h k is = cc
-same_field (Exactness false) (Exactness true) e h k is = cc
+same_field (Policy a) (Policy b) e h k is = ap Policy (same_policy a b h k is)
 same_field one other e h k is = cc
 
 -- ---- fields that cannot be read
@@ -110,15 +116,6 @@ fail_alone word rest (Failure true ∷ []) e is = ((cc), (cc))
 fail_alone word rest (Failure false ∷ []) e is = cc
 fail_alone word rest (field ∷ second ∷ fields) e is = cc
 fail_alone word rest (field ∷ []) e is = cc
-
--- an exactness is the word `exact` alone
-pub exact_alone : (word : List ℕ) (rest : List (List ℕ)) (any : List Field) → kinds_of any ≡ exactness ∷ [] → word ∷ rest ≡ words_of any
-    → (word ≡ codes "exact") × (rest ≡ [])
-exact_alone word rest [] e is = cc
-exact_alone word rest (Exactness true ∷ []) e is = ((cc), (cc))
-exact_alone word rest (Exactness false ∷ []) e is = cc
-exact_alone word rest (field ∷ second ∷ fields) e is = cc
-exact_alone word rest (field ∷ []) e is = cc
 
 pub no_pair-first : (kind : Kind) (kinds : List Kind) (before : List (List ℕ))
     → ((any : Field) → kind_of any ≡ kind → IsInRange any → (others : List (List ℕ)) → before ≡ field_words any ++ others → ⊥)
@@ -252,33 +249,84 @@ is_split-kinds any = elim any as (λ word. is_split (kinds word) ≡ true) [ ver
 
 -- ---- commands that cannot be read
 
+-- the words of a command begin with its name
+pub record Begun (spelled : List (List ℕ)) (command : Command) : Type 0 where
+  pub behind : List (List ℕ)
+  pub is : spelled ≡ (row_of command).name ∷ behind
+
+pub begun : (spelled : List (List ℕ)) (command : Command) → Spells spelled command → Begun spelled command
+begun spelled (command.Policy named) h = record { behind = h.0; is = h.1 }
+begun spelled (command.Enclave limits) h = record { behind = words_of (row_of (command.Enclave limits)).fields; is = h.1 }
+begun spelled (command.Event e) h = record { behind = words_of (row_of (command.Event e)).fields; is = h.1 }
+begun spelled (command.Read question) h = record { behind = words_of (row_of (command.Read question)).fields; is = h.1 }
+begun spelled (command.Mend cpu) h = record { behind = words_of (row_of (command.Mend cpu)).fields; is = h.1 }
+
 pub no_words : (command : Command) → Spells [] command → ⊥
-no_words command h = cc (h.1)
+no_words command h = let is = (begun [] command h).is in cc
 
 pub no_verb : (word : List ℕ) (rest : List (List ℕ)) → ((any : Verb) → word ≡ name_of any → ⊥) → (command : Command) → Spells (word ∷ rest) command → ⊥
 no_verb word rest none command h =
     let has = verb_for command in
-    let first : word ≡ (row_of command).name = cc (h.1) in
+    let is = (begun (word ∷ rest) command h).is in
+    let first : word ≡ (row_of command).name = cc in
     none has.word (first ∙ sym has.named)
 
 -- the verb of a command whose words begin with a verb's
 begins : (verb : Verb) (rest : List (List ℕ)) (command : Command) → Spells (name_of verb ∷ rest) command → (verb_for command).word ≡ verb
 begins verb rest command h =
     let has = verb_for command in
-    let first : name_of verb ≡ (row_of command).name = cc (h.1) in
+    let is = (begun (name_of verb ∷ rest) command h).is in
+    let first : name_of verb ≡ (row_of command).name = cc in
     one_verb has.word verb (has.named ∙ sym first)
 
-pub no_row : (verb : Verb) (rest : List (List ℕ))
-    → ((any : List Field) → kinds_of any ≡ kinds verb → AreInRange any → rest ≡ words_of any → ⊥)
-    → (command : Command) → Spells (name_of verb ∷ rest) command → ⊥
-no_row verb rest none command h =
-    let has = verb_for command in
-    let kinded : kinds_of (row_of command).fields ≡ kinds verb = sym has.kinded ∙ ap kinds (begins verb rest command h) in
-    none (row_of command).fields kinded h.0 (cc (h.1))
+-- a command that has only the words of its row
+abbrev SpellsRow : List (List ℕ) → Command → Type 0
+SpellsRow spelled command = AreInRange (row_of command).fields × (spelled ≡ (row_of command).name ∷ words_of (row_of command).fields)
 
--- words are those of one command at most
-pub one_spelled : (spelled : List (List ℕ)) (one other : Command) → Spells spelled one → Spells spelled other → one ≡ other
-one_spelled spelled one other h k =
+-- words that are those of no row
+abbrev HasNoRow : Verb → List (List ℕ) → Type 0
+HasNoRow verb rest = (any : List Field) → kinds_of any ≡ kinds verb → AreInRange any → rest ≡ words_of any → ⊥
+
+row_none : (rest : List (List ℕ)) (word : Verb) → (word ≡ verb.Policy → ⊥) → SpellsNone word rest → HasNoRow word rest
+row_none rest word = elim word as (λ word. (word ≡ verb.Policy → ⊥) → SpellsNone word rest → HasNoRow word rest) [
+  | verb.Policy ↦ λ other none. absurd (other refl)
+  | _ ↦ λ other none. none
+]
+
+-- a command of the verb `policy` is a policy
+is_policy : (command : Command) → (verb_for command).word ≡ verb.Policy → back verb.Policy (row_of command).fields ≡ command
+is_policy command is = sym (ap (λ word. back word (row_of command).fields) is) ∙ (verb_for command).same
+
+no_row_of : (word : Verb) (rest : List (List ℕ)) (command : Command) → (verb_for command).word ≡ word → SpellsNone word rest
+    → (back verb.Policy (row_of command).fields ≡ command → ⊥) → SpellsRow (name_of word ∷ rest) command → ⊥
+no_row_of word rest command same none other h =
+    let behind : rest ≡ words_of (row_of command).fields = let is = h.1 in cc in
+    row_none rest word (λ is. other (is_policy command (same ∙ is))) none (row_of command).fields (sym (verb_for command).kinded ∙ ap kinds same) h.0 behind
+
+pub no_row : (word : Verb) (rest : List (List ℕ)) → SpellsNone word rest → (command : Command) → Spells (name_of word ∷ rest) command → ⊥
+unfolding verb_for
+no_row word rest none (command.Policy named) h =
+    let same : verb.Policy ≡ word = begins word rest (command.Policy named) h in
+    let is = h.1 in
+    let behind : rest ≡ h.0 = cc in
+    subst (λ v. SpellsNone v rest) (sym same) none named (subst (λ text. IsPolicy (spaced text) named) (sym behind) h.2)
+no_row word rest none (command.Enclave limits) h =
+    no_row_of word rest (command.Enclave limits) (begins word rest (command.Enclave limits) h) none (λ is. cc) h
+no_row word rest none (command.Event e) h = no_row_of word rest (command.Event e) (begins word rest (command.Event e) h) none (λ is. cc) h
+no_row word rest none (command.Read question) h =
+    no_row_of word rest (command.Read question) (begins word rest (command.Read question) h) none (λ is. cc) h
+no_row word rest none (command.Mend cpu) h = no_row_of word rest (command.Mend cpu) (begins word rest (command.Mend cpu) h) none (λ is. cc) h
+
+-- what was read behind a verb, or was not, is so of the verb's word
+pub by_verb : (taken : Bool) (name : List ℕ) (word : Verb) (rest : List (List ℕ)) (command : Command) → name ≡ name_of word
+    → MatchBool taken (Spells (name_of word ∷ rest) command) (SpellsNone word rest)
+    → MatchBool taken (Spells (name ∷ rest) command) ((any : Command) → Spells (name ∷ rest) any → ⊥)
+by_verb true name word rest command is h = subst (λ first. Spells (first ∷ rest) command) (sym is) h
+by_verb false name word rest command is h = λ any spelled. no_row word rest h any (subst (λ first. Spells (first ∷ rest) any) is spelled)
+
+-- words are those of one row at most
+one_row : (spelled : List (List ℕ)) (one other : Command) → SpellsRow spelled one → SpellsRow spelled other → one ≡ other
+one_row spelled one other h k =
     let first = verb_for one in
     let second = verb_for other in
     let rows : (row_of one).name ∷ words_of (row_of one).fields ≡ (row_of other).name ∷ words_of (row_of other).fields = sym h.1 ∙ k.1 in
@@ -288,6 +336,47 @@ one_spelled spelled one other h k =
     let fields : (row_of one).fields ≡ (row_of other).fields =
     same_fields (kinds first.word) (is_split-kinds first.word) (row_of one).fields (row_of other).fields (sym first.kinded) kinded h.0 k.0 (cc (rows)) in
     sym first.same ∙ ap (λ word. back word (row_of one).fields) verbs ∙ ap (back second.word) fields ∙ second.same
+
+-- and a policy's words are those of no other command
+no_other : (spelled : List (List ℕ)) (named : PolicyName) (other : Command) → Spells spelled (command.Policy named) → Spells spelled other
+    → back verb.Policy (row_of other).fields ≡ other
+no_other spelled named other h k =
+    let one = h.1 in
+    let two = (begun spelled other k).is in
+    let names : (row_of other).name ≡ codes "policy" = cc in
+    is_policy other (one_verb (verb_for other).word verb.Policy ((verb_for other).named ∙ names))
+
+-- words are those of one command at most
+pub one_spelled : (spelled : List (List ℕ)) (one other : Command) → Spells spelled one → Spells spelled other → one ≡ other
+one_spelled spelled (command.Policy a) (command.Policy b) h k =
+    let one = h.1 in
+    let two = k.1 in
+    let same : k.0 ≡ h.0 = cc in
+    ap command.Policy (one_policy (spaced h.0) a b h.2 (subst (λ text. IsPolicy (spaced text) b) same k.2))
+one_spelled spelled (command.Policy a) (command.Enclave l) h k = let is = no_other spelled a (command.Enclave l) h k in cc
+one_spelled spelled (command.Enclave l) (command.Policy b) h k = let is = no_other spelled b (command.Enclave l) k h in cc
+one_spelled spelled (command.Policy a) (command.Event e) h k = let is = no_other spelled a (command.Event e) h k in cc
+one_spelled spelled (command.Event e) (command.Policy b) h k = let is = no_other spelled b (command.Event e) k h in cc
+one_spelled spelled (command.Policy a) (command.Read q) h k = let is = no_other spelled a (command.Read q) h k in cc
+one_spelled spelled (command.Read q) (command.Policy b) h k = let is = no_other spelled b (command.Read q) k h in cc
+one_spelled spelled (command.Policy a) (command.Mend c) h k = let is = no_other spelled a (command.Mend c) h k in cc
+one_spelled spelled (command.Mend c) (command.Policy b) h k = let is = no_other spelled b (command.Mend c) k h in cc
+one_spelled spelled (command.Enclave l) (command.Enclave m) h k = one_row spelled (command.Enclave l) (command.Enclave m) h k
+one_spelled spelled (command.Enclave l) (command.Event f) h k = one_row spelled (command.Enclave l) (command.Event f) h k
+one_spelled spelled (command.Enclave l) (command.Read r) h k = one_row spelled (command.Enclave l) (command.Read r) h k
+one_spelled spelled (command.Enclave l) (command.Mend d) h k = one_row spelled (command.Enclave l) (command.Mend d) h k
+one_spelled spelled (command.Event e) (command.Enclave m) h k = one_row spelled (command.Event e) (command.Enclave m) h k
+one_spelled spelled (command.Event e) (command.Event f) h k = one_row spelled (command.Event e) (command.Event f) h k
+one_spelled spelled (command.Event e) (command.Read r) h k = one_row spelled (command.Event e) (command.Read r) h k
+one_spelled spelled (command.Event e) (command.Mend d) h k = one_row spelled (command.Event e) (command.Mend d) h k
+one_spelled spelled (command.Read q) (command.Enclave m) h k = one_row spelled (command.Read q) (command.Enclave m) h k
+one_spelled spelled (command.Read q) (command.Event f) h k = one_row spelled (command.Read q) (command.Event f) h k
+one_spelled spelled (command.Read q) (command.Read r) h k = one_row spelled (command.Read q) (command.Read r) h k
+one_spelled spelled (command.Read q) (command.Mend d) h k = one_row spelled (command.Read q) (command.Mend d) h k
+one_spelled spelled (command.Mend c) (command.Enclave m) h k = one_row spelled (command.Mend c) (command.Enclave m) h k
+one_spelled spelled (command.Mend c) (command.Event f) h k = one_row spelled (command.Mend c) (command.Event f) h k
+one_spelled spelled (command.Mend c) (command.Read r) h k = one_row spelled (command.Mend c) (command.Read r) h k
+one_spelled spelled (command.Mend c) (command.Mend d) h k = one_row spelled (command.Mend c) (command.Mend d) h k
 
 -- words that spell a command which is not of the version ask for none
 pub asks_for_none : (version : Version) (spelled : List (List ℕ)) (command : Command) → Spells spelled command → (IsOf version command → ⊥)

@@ -12,8 +12,7 @@ use Rattle.pc_calls.specs.declared.event.Event.TheVariants as event
 use Rattle.pc_script.specs.Text.{words}
 use Rattle.pc_script.specs.declared.command.Command.{Command}
 use Rattle.pc_script.specs.declared.command.Command.TheVariants as command
-use Rattle.pc_policy.specs.declared.named.OrderName.{OrderName}
-use Rattle.pc_policy.specs.Names.{order_word}
+use Rattle.pc_policy.specs.Names.{IsPolicy, IsReadAgain, policy_text}
 use Rattle.pc_policy.specs.declared.named.PolicyName.{PolicyName}
 use Rattle.pc_script.specs.declared.command.Read.{Read}
 use Rattle.pc_script.specs.declared.command.Read.TheVariants as read
@@ -26,7 +25,7 @@ use Rattle.pc_script.specs.declared.version.Version.TheVariants as version
 
 -- An argument of a command, and its value: how many CPUs there are, a CPU, a queue, a level, a count (of ticks, of
 -- posts, or a number up to which something is counted), a mask, the index of a delta, a thread, how a new thread
--- starts, whom a queue wakes, whether a send fails, an order of threads, and whether steals are exact
+-- starts, whom a queue wakes, whether a send fails, and what agents go by
 pub data Field : Type 0 where
   Processors : ℕ → Field
   Processor : ℕ → Field
@@ -39,8 +38,7 @@ pub data Field : Type 0 where
   State : Bool → Field
   Target : Option ℕ → Field
   Failure : Bool → Field
-  Order : OrderName → Field
-  Exactness : Bool → Field
+  Policy : PolicyName → Field
 
 -- a thread is `t`, and its number
 abbrev pub thread_name : ℕ → List ℕ
@@ -61,11 +59,6 @@ abbrev pub failure_words : Bool → List (List ℕ)
 failure_words true = codes "fail" ∷ []
 failure_words false = []
 
--- exact steals are asked for by a further word
-abbrev pub exactness_words : Bool → List (List ℕ)
-exactness_words true = codes "exact" ∷ []
-exactness_words false = []
-
 -- the words of a field; a number is written in decimal, with neither a sign nor a zero in front
 abbrev pub field_words : Field → List (List ℕ)
 field_words (Processors number) = decimal number ∷ []
@@ -79,8 +72,7 @@ field_words (Thread thread) = thread_name thread ∷ []
 field_words (State is_ready) = state_word is_ready ∷ []
 field_words (Target cpu) = target_word cpu ∷ []
 field_words (Failure fails) = failure_words fails
-field_words (Order named) = order_word named ∷ []
-field_words (Exactness exact) = exactness_words exact
+field_words (Policy named) = words (policy_text named)
 
 -- the range of a field's value
 abbrev pub IsInRange : Field → Type 0
@@ -95,8 +87,7 @@ IsInRange (Thread thread) = thread < 2 ^ 32
 IsInRange (State is_ready) = Unit {0}
 IsInRange (Target cpu) = IfSome cpu (λ c. c < 2 ^ 8)
 IsInRange (Failure fails) = Unit {0}
-IsInRange (Order named) = Unit {0}
-IsInRange (Exactness exact) = Unit {0}
+IsInRange (Policy named) = IsReadAgain named.order
 
 -- the words of fields, one after another
 abbrev pub words_of : List Field → List (List ℕ)
@@ -160,10 +151,6 @@ read_row (read.Show cpu) = row (codes "show") (Processor cpu ∷ [])
 read_row (read.Same cpu other) = row (codes "same") (Processor cpu ∷ Processor other ∷ [])
 read_row (read.Complete cpu thread) = row (codes "complete") (Processor cpu ∷ Thread thread ∷ [])
 
--- a policy is an order, and whether steals are exact
-abbrev pub policy_fields : PolicyName → List Field
-policy_fields named = Order named.order ∷ Exactness named.exact ∷ []
-
 -- a command's row
 abbrev pub row_of : Command → Row
 row_of (command.Enclave limits) =
@@ -171,7 +158,7 @@ row_of (command.Enclave limits) =
     (Processors limits.cpus ∷ Count limits.threads ∷ Count limits.numbers ∷ Count limits.room ∷ Count limits.posts ∷ [])
 row_of (command.Event event) = event_row event
 row_of (command.Read question) = read_row question
-row_of (command.Policy named) = row (codes "policy") (policy_fields named)
+row_of (command.Policy named) = row (codes "policy") (Policy named ∷ [])
 row_of (command.Mend cpu) = row (codes "mend") (Processor cpu ∷ [])
 
 -- words with a space between each two
@@ -190,8 +177,11 @@ command_text command = row_text (row_of command)
 
 -- ---- lines
 
--- these words are the command's
+-- These words are the command's: its row's, and of a policy, with a space between each two, any text of it behind the
+-- command's name
 abbrev pub Spells : List (List ℕ) → Command → Type 0
+Spells spelled (command.Policy named) =
+    (text : List (List ℕ)) × (spelled ≡ codes "policy" ∷ text) × IsPolicy (spaced text) named
 Spells spelled command =
     AreInRange (row_of command).fields × (spelled ≡ (row_of command).name ∷ words_of (row_of command).fields)
 

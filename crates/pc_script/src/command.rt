@@ -1,5 +1,7 @@
 //! Commands.
 
+ghost use Rattle.std.specs.Prelude.{◌≡◌};
+
 use pc_calls::{Event, Limits};
 use pc_messages::{Cpu, Tid};
 use pc_policy::PolicyName;
@@ -17,6 +19,44 @@ pub enum Command {
     Policy(PolicyName),
     /// The CPU is mended: it comes to run a thread that waits for it. It is of version 3.
     Mend { cpu: Cpu },
+}
+
+/// How a command is put into a place. Most stand where another of the same sort stood, and then only the event or the
+/// question is written: a whole command has room for a policy.
+impl Command {
+    #[inline(always)]
+    pub(crate) fn put_enclave(&mut self, limits: Limits)
+        ensures { self.new ≡ Command.Enclave limits }
+    {
+        *self = Command::Enclave(limits);
+    }
+
+    #[inline(always)]
+    pub(crate) fn put_event(&mut self, event: Event)
+        ensures { self.new ≡ Command.Event event }
+    {
+        match self {
+            Command::Event(place) => *place = event,
+            _ => *self = Command::Event(event),
+        }
+    }
+
+    #[inline(always)]
+    pub(crate) fn put_read(&mut self, read: Read)
+        ensures { self.new ≡ Command.Read read }
+    {
+        match self {
+            Command::Read(place) => *place = read,
+            _ => *self = Command::Read(read),
+        }
+    }
+
+    #[inline(always)]
+    pub(crate) fn put_mend(&mut self, cpu: Cpu)
+        ensures { self.new ≡ Command.Mend cpu }
+    {
+        *self = Command::Mend { cpu };
+    }
 }
 
 /// A question about the kernel, or about the views of the agents.

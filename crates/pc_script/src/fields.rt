@@ -11,7 +11,6 @@ use crate::digits::byte;
 use crate::trouble::Wanted;
 use crate::words::Words;
 use pc_messages::{Cpu, Phase, Tid};
-use pc_policy::OrderName;
 
 /// A field that is one word.
 pub(crate) trait Argument: Copy {
@@ -89,14 +88,6 @@ pub(crate) struct Target(pub(crate) Option<Cpu>);
 /// Whether a send fails: the word `fail`, or none.
 #[derive(Clone, Copy)]
 pub(crate) struct Failure(pub(crate) bool);
-
-/// An order of threads.
-#[derive(Clone, Copy)]
-pub(crate) struct Order(pub(crate) OrderName);
-
-/// Whether steals are exact: the word `exact`, or none.
-#[derive(Clone, Copy)]
-pub(crate) struct Exactness(pub(crate) bool);
 
 impl Argument for Processors {
     ghost kind = { reading.processors };
@@ -269,23 +260,6 @@ impl Argument for Target {
     }
 }
 
-impl Argument for Order {
-    ghost kind = { reading.order };
-
-    ghost field = { λ read. grammar.Order read.0 };
-
-    ghost is_one_word = { refl };
-
-    fn wanted() -> Wanted {
-        Wanted::Order
-    }
-
-    fn read(words: &mut Words<'_>) -> Option<Self> {
-        let word = words.next()?;
-        Some(Order(OrderName::named(word)?))
-    }
-}
-
 impl Arguments for () {
     ghost kinds = { [] };
 
@@ -310,26 +284,6 @@ impl Arguments for Failure {
         }
         if words.is_over() {
             Some(Failure(true))
-        } else {
-            None
-        }
-    }
-}
-
-impl Arguments for Exactness {
-    ghost kinds = { reading.exactness ∷ [] };
-
-    ghost fields = { λ read. grammar.Exactness read.0 ∷ [] };
-
-    fn read(words: &mut Words<'_>) -> Option<Self> {
-        let Some(word) = words.next() else {
-            return Some(Exactness(false));
-        };
-        if word != b"exact".as_slice() {
-            return None;
-        }
-        if words.is_over() {
-            Some(Exactness(true))
         } else {
             None
         }

@@ -5,11 +5,11 @@ use pc_messages::Phase;
 use pc_policy::OrderName;
 use std::fmt;
 
-/// The words of all orders, as a list: it shows as them, with a text between two, and with one before the last.
+/// How orders are written, as a list: the words of those that have one, with a text between two, and one behind them.
 #[derive(Clone, Copy)]
 pub struct Orders {
     between: &'static str,
-    last: &'static str,
+    behind: &'static str,
 }
 
 impl Orders {
@@ -17,30 +17,26 @@ impl Orders {
     pub const fn in_words() -> Orders {
         Orders {
             between: ", ",
-            last: " or ",
+            behind: " or rank EXPRESSION",
         }
     }
 
-    /// As a table has them: `levels|fifo|..`.
+    /// As a table has those that have a word: `levels|fifo|..`.
     const fn in_table() -> Orders {
         Orders {
             between: "|",
-            last: "|",
+            behind: "",
         }
     }
 }
 
 impl fmt::Display for Orders {
     fn fmt<W: fmt::Write>(&self, f: &mut fmt::Formatter<W>) -> fmt::Result {
-        for (place, order) in OrderName::ALL.iter().enumerate() {
-            let before = match place {
-                0 => "",
-                _ if place + 1 == OrderName::ALL.len() => self.last,
-                _ => self.between,
-            };
+        for (place, order) in OrderName::BUILT_IN.iter().enumerate() {
+            let before = if place == 0 { "" } else { self.between };
             write!(f, "{before}{order}")?;
         }
-        Ok(())
+        f.write_str(self.behind)
     }
 }
 
@@ -184,7 +180,8 @@ impl fmt::Display for InTable {
             LastWord::Either(one, other) => write!(f, "{words} {one}|{other}"),
             LastWord::OrderAndMaybe(word) => {
                 let orders = Orders::in_table();
-                write!(f, "{words} {orders} [{word}]")
+                write!(f, "{words} {orders} [{word}]\n")?;
+                write!(f, "{words} rank EXPRESSION [{word}]")
             }
             LastWord::Maybe(word) => write!(f, "{words} [{word}]"),
         }

@@ -4,22 +4,22 @@ ghost use Rattle.std.specs.Prelude.{◌≡◌, ◌∷◌, List, IsTrue, ◌↔�
 ghost use Rattle.std.specs.Bool.{MatchBool};
 ghost use Rattle.pc_script.specs.Grammar.{Field, AreInRange, Spells, words_of};
 ghost use Rattle.pc_script.specs.Inner.Readings.{IsReading, kinds_of};
-ghost use Rattle.pc_script.specs.Inner.Verbs.{kinds, name_of};
+ghost use Rattle.pc_script.specs.Inner.Verbs.{SpellsNone, kinds, name_of};
 ghost use Rattle.pc_script.specs.Inner.Taking.{words_left};
 ghost use Rattle.pc_script.specs.declared.grammar.Verb.{Verb};
 
 use crate::command::{Command, Read};
 use crate::fields::{
-    Arguments, Count, Exactness, Failure, Index, Level, Mask, Order, Processor, Processors, Queue,
-    State, Target, Thread,
+    Arguments, Count, Failure, Index, Level, Mask, Processor, Processors, Queue, State, Target,
+    Thread,
 };
+use crate::policy::{policy_trouble, read_policy};
 use crate::trouble::{
     Trouble, Wanted, field_and_word, five_fields, last_field, three_fields, two_fields,
 };
 use crate::version::Version;
 use crate::words::Words;
 use pc_calls::{AgentCall, EnvCall, Event, Limits};
-use pc_policy::PolicyName;
 
 /// The first word of a command.
 #[derive(Clone, Copy, Debug, PartialEq, Eq)]
@@ -95,80 +95,76 @@ fn verb_of(word: &[u8]) -> Option<Verb>
     }
 }
 
-/// Fields as the nested pairs that [`Arguments`] reads. A failure and an exactness stand last.
+/// Fields as the nested pairs that [`Arguments`] reads. A failure stands last.
 macro_rules! pairs {
     (Failure($last:pat)) => { Failure($last) };
-    (Exactness($last:pat)) => { Exactness($last) };
     ($first:pat) => { ($first, ()) };
     ($first:pat, $($others:tt)+) => { ($first, pairs!($($others)+)) };
 }
 
 /// Hands the table of commands to a macro, behind what is given: of each verb the fields that stand behind its word,
-/// and the command that they make.
+/// and how the command that they make is put into a place. A policy is read by its whole text, so it has no row.
 macro_rules! table {
     ($make:ident, $($given:expr),+) => {
         $make!($($given),+;
             Enclave(Processors(cpus), Count(threads), Count(numbers), Count(room), Count(posts)) =>
-                Command::Enclave(Limits { cpus, threads, numbers, room, posts }),
+                put_enclave(Limits { cpus, threads, numbers, room, posts }),
             Create(Queue(queue), Mask(mask), State(ready)) =>
-                Command::Event(Event::Env(EnvCall::Create { queue, mask, ready })),
-            Wake(Thread(thread)) => Command::Event(Event::Env(EnvCall::Wake { thread })),
-            Block(Processor(cpu), Count(ran)) => Command::Event(Event::Env(EnvCall::Block { cpu, ran })),
-            Yield(Processor(cpu), Count(ran)) => Command::Event(Event::Env(EnvCall::YieldNow { cpu, ran })),
-            Preempt(Processor(cpu), Count(ran)) => Command::Event(Event::Env(EnvCall::Preempt { cpu, ran })),
-            Die(Processor(cpu), Count(ran)) => Command::Event(Event::Env(EnvCall::Die { cpu, ran })),
-            Affinity(Thread(thread), Mask(mask)) => Command::Event(Event::Env(EnvCall::SetAffinity { thread, mask })),
+                put_event(Event::Env(EnvCall::Create { queue, mask, ready })),
+            Wake(Thread(thread)) => put_event(Event::Env(EnvCall::Wake { thread })),
+            Block(Processor(cpu), Count(ran)) => put_event(Event::Env(EnvCall::Block { cpu, ran })),
+            Yield(Processor(cpu), Count(ran)) => put_event(Event::Env(EnvCall::YieldNow { cpu, ran })),
+            Preempt(Processor(cpu), Count(ran)) => put_event(Event::Env(EnvCall::Preempt { cpu, ran })),
+            Die(Processor(cpu), Count(ran)) => put_event(Event::Env(EnvCall::Die { cpu, ran })),
+            Affinity(Thread(thread), Mask(mask)) => put_event(Event::Env(EnvCall::SetAffinity { thread, mask })),
             Priority(Thread(thread), Level(level)) =>
-                Command::Event(Event::Env(EnvCall::SetPriority { thread, level })),
-            Tick(Processor(cpu)) => Command::Event(Event::Env(EnvCall::Tick { cpu })),
+                put_event(Event::Env(EnvCall::SetPriority { thread, level })),
+            Tick(Processor(cpu)) => put_event(Event::Env(EnvCall::Tick { cpu })),
             Associate(Thread(thread), Queue(queue), Count(number)) =>
-                Command::Event(Event::Agent(AgentCall::Associate { thread, queue, number })),
+                put_event(Event::Agent(AgentCall::Associate { thread, queue, number })),
             Commit(Processor(cpu), Thread(thread), Count(aseq)) =>
-                Command::Event(Event::Agent(AgentCall::Commit { cpu, thread, aseq })),
-            Sleep(Processor(cpu), Count(aseq)) => Command::Event(Event::Agent(AgentCall::Sleep { cpu, aseq })),
-            Rouse(Processor(cpu)) => Command::Event(Event::Agent(AgentCall::Rouse { cpu })),
-            Config(Queue(queue), Target(target)) => Command::Event(Event::Agent(AgentCall::Config { queue, target })),
-            Publish(Processor(cpu), Failure(fails)) => Command::Event(Event::Publish { cpu, fails }),
-            Consume(Processor(cpu)) => Command::Event(Event::Consume { cpu }),
-            Deliver(Processor(cpu), Index(delta)) => Command::Event(Event::Deliver { cpu, delta }),
-            Answer(Processor(cpu), Processor(asker)) => Command::Event(Event::Answer { cpu, asker }),
-            Pick(Processor(cpu), Count(aseq)) => Command::Event(Event::Pick { cpu, aseq }),
-            Steal(Processor(cpu)) => Command::Event(Event::Steal { cpu }),
-            Crash(Processor(cpu)) => Command::Event(Event::Crash { cpu }),
-            Status(Thread(thread)) => Command::Read(Read::Status { thread }),
-            Asleep(Processor(cpu)) => Command::Read(Read::Asleep { cpu }),
-            Show(Processor(cpu)) => Command::Read(Read::Show { cpu }),
-            Same(Processor(cpu), Processor(other)) => Command::Read(Read::Same { cpu, other }),
-            Complete(Processor(cpu), Thread(thread)) => Command::Read(Read::Complete { cpu, thread }),
-            Policy(Order(order), Exactness(exact)) => Command::Policy(PolicyName { order, exact }),
-            Mend(Processor(cpu)) => Command::Mend { cpu }
+                put_event(Event::Agent(AgentCall::Commit { cpu, thread, aseq })),
+            Sleep(Processor(cpu), Count(aseq)) => put_event(Event::Agent(AgentCall::Sleep { cpu, aseq })),
+            Rouse(Processor(cpu)) => put_event(Event::Agent(AgentCall::Rouse { cpu })),
+            Config(Queue(queue), Target(target)) => put_event(Event::Agent(AgentCall::Config { queue, target })),
+            Publish(Processor(cpu), Failure(fails)) => put_event(Event::Publish { cpu, fails }),
+            Consume(Processor(cpu)) => put_event(Event::Consume { cpu }),
+            Deliver(Processor(cpu), Index(delta)) => put_event(Event::Deliver { cpu, delta }),
+            Answer(Processor(cpu), Processor(asker)) => put_event(Event::Answer { cpu, asker }),
+            Pick(Processor(cpu), Count(aseq)) => put_event(Event::Pick { cpu, aseq }),
+            Steal(Processor(cpu)) => put_event(Event::Steal { cpu }),
+            Crash(Processor(cpu)) => put_event(Event::Crash { cpu }),
+            Status(Thread(thread)) => put_read(Read::Status { thread }),
+            Asleep(Processor(cpu)) => put_read(Read::Asleep { cpu }),
+            Show(Processor(cpu)) => put_read(Read::Show { cpu }),
+            Same(Processor(cpu), Processor(other)) => put_read(Read::Same { cpu, other }),
+            Complete(Processor(cpu), Thread(thread)) => put_read(Read::Complete { cpu, thread }),
+            Mend(Processor(cpu)) => put_mend(cpu)
         )
     };
 }
 
 /// Puts the command of a verb, whose fields are the words that are left, into a place. Answers whether there is one.
 macro_rules! read {
-    ($verb:expr, $words:expr, $place:expr; $($name:ident($($fields:tt)+) => $command:expr),+) => {
+    ($verb:expr, $words:expr, $place:expr; $($name:ident($($fields:tt)+) => $put:ident($($made:tt)+)),+) => {
         match $verb {
             $(Verb::$name => match Arguments::read($words) {
                 Some(pairs!($($fields)+)) => {
-                    *$place = $command;
+                    $place.$put($($made)+);
                     true
                 }
                 None => false,
             })+
+            Verb::Policy => read_policy($words, $place),
         }
     };
 }
 
-/// The first trouble with the words that are left behind a verb's, which should be these fields. A failure and an
-/// exactness stand last. Each is one call: what matches in each other cost a proof grows faster than they do.
+/// The first trouble with the words that are left behind a verb's, which should be these fields. A failure stands last.
+/// Each is one call: what matches in each other cost a proof grows faster than they do.
 macro_rules! first_trouble {
     ($verb:expr, $words:expr; $first:ident($value:pat), Failure($last:pat)) => {
         field_and_word::<$first>($verb, $words, b"fail", Wanted::Failure)
-    };
-    ($verb:expr, $words:expr; $first:ident($value:pat), Exactness($last:pat)) => {
-        field_and_word::<$first>($verb, $words, b"exact", Wanted::Exactness)
     };
     ($verb:expr, $words:expr; $last:ident($value:pat)) => {
         last_field::<$last>($verb, $words, 2)
@@ -186,9 +182,10 @@ macro_rules! first_trouble {
 
 /// The first trouble with the words that are left behind a verb's.
 macro_rules! troubles {
-    ($verb:expr, $words:expr; $($name:ident($($fields:tt)+) => $command:expr),+) => {
+    ($verb:expr, $words:expr; $($name:ident($($fields:tt)+) => $put:ident($($made:tt)+)),+) => {
         match $verb {
             $(Verb::$name => first_trouble!($verb, $words; $($fields)+),)+
+            Verb::Policy => policy_trouble($words),
         }
     };
 }
@@ -200,7 +197,7 @@ macro_rules! troubles {
 #[inline(always)]
 fn read_as(verb: Verb, words: &mut Words<'_>, place: &mut Command) -> bool
     ensures { MatchBool result (Spells (name_of verb ∷ words_left words.old) place.new)
-        ((any : List Field) → kinds_of any ≡ kinds verb → AreInRange any → words_left words.old ≡ words_of any → ⊥) }
+        (SpellsNone verb (words_left words.old)) }
 {
     table!(read, verb, words, place)
 }

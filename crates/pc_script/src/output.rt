@@ -135,7 +135,7 @@ impl Output {
             None => self.waiting.put(self.line.as_slice(), writer),
             Some(threads) => {
                 let is_put = self.put_view(threads, writer);
-                *response = Response::Opened;
+                response.let_go();
                 is_put
             }
         }

@@ -46,6 +46,12 @@ pub enum Response {
 }
 
 impl Response {
+    /// Lets go of what it holds. It stands apart, so that no room for a response is made ready where one is written.
+    #[inline(never)]
+    pub(crate) fn let_go(&mut self) {
+        *self = Response::Opened;
+    }
+
     /// Writes the response's text and a line feed: a view piece by piece, every other response at once.
     #[inline(always)]
     pub fn write_to<W: Write>(&self, writer: &mut W) -> io::Result<()>

@@ -182,7 +182,10 @@ impl fmt::Display for Command {
                 write!(f, "{event}")
             }
             Command::Read(question) => write!(f, "{question}"),
-            Command::Policy(policy) => write!(f, "policy {policy}"),
+            Command::Policy(policy) => {
+                policy.is_read_again();
+                write!(f, "policy {policy}")
+            }
             Command::Mend { cpu } => write!(f, "mend {}", cpu.index()),
         }
     }

@@ -8,6 +8,7 @@ use crate::grammar::{Verb, trouble_of};
 use crate::line::{Wish, asked};
 use crate::version::Version;
 use crate::words::Words;
+use pc_rank::RankFault;
 
 /// What may stand at a word's place: the field that the table of commands has there.
 #[derive(Clone, Copy, Debug, PartialEq, Eq)]
@@ -29,7 +30,7 @@ pub enum Wanted {
     Target,
     /// The word `fail`, or none.
     Failure,
-    /// The name of an order of threads.
+    /// The word of an order of threads, or `rank` and an expression.
     Order,
     /// The word `exact`, or none.
     Exactness,
@@ -54,6 +55,11 @@ pub enum Trouble<'a> {
         place: u32,
         word: &'a [u8],
         wanted: Wanted,
+    },
+    /// What stands behind `policy rank` is no expression: the bytes are those behind `rank` and a space, where the
+    /// words have one space between each two.
+    Rank {
+        fault: RankFault,
     },
     /// The command ends before this word.
     TooMany {
@@ -110,7 +116,7 @@ fn trouble_with<'a, F: Argument>(
 }
 
 /// The trouble with the next word, which should be this last one, or not be there.
-fn trouble_with_last<'a>(
+pub(crate) fn trouble_with_last<'a>(
     verb: Verb,
     words: &mut Words<'a>,
     place: u32,

@@ -85,6 +85,13 @@ impl<'a> Words<'a> {
         Words { rest: text }
     }
 
+    /// The words that are left, to be taken again.
+    pub(crate) fn again(&self) -> Words<'a>
+        ensures { words_left result ≡ words_left self.now }
+    {
+        Words { rest: self.rest }
+    }
+
     /// Takes the next word.
     #[inline(always)]
     pub(crate) fn next(&mut self) -> Option<&'a [u8]>

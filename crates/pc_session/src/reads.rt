@@ -1,6 +1,6 @@
 //! What a script's reads of a world are answered.
 
-ghost use Rattle.std.specs.Prelude.{IfOk, OnErr};
+ghost use Rattle.std.specs.Prelude.{◌≡◌, IfOk, OnErr};
 ghost use Rattle.pc_kernel.specs.Reads.{seen};
 ghost use Rattle.pc_world.specs.PlainWorld.{PlainWorld};
 ghost use Rattle.pc_world.specs.Shows.{ShowsWorld};
@@ -8,9 +8,9 @@ ghost use Rattle.pc_session.specs.Reads.{IsAsleep, IsComparing, IsCompleting, Is
 ghost use Rattle.pc_session.specs.Session.{TakesMemoryToRead};
 
 use crate::show::shown_threads;
-use pc_calls::Refusal;
+use pc_calls::{Refusal, Status};
 use pc_kernel::Kernel;
-use pc_messages::{Cpu, Tid};
+use pc_messages::{Cpu, Phase, Tid};
 use pc_script::{Read, Response};
 use pc_view::{
     complete, equality_is_exact, reads_are_those_of_the_run, views_of_the_same_messages_are_equal,
@@ -32,19 +32,63 @@ pub fn answer_of(alloc: Global, world: &World, read: Read) -> Result<Response, A
     }
 }
 
+/// Puts the response that the thread is unknown into a place.
+#[inline(never)]
+fn put_unknown(response: &mut Response)
+    ensures { response.new ≡ Response.Refused Refusal.UnknownThread }
+{
+    *response = Response::Refused(Refusal::UnknownThread);
+}
+
+/// Puts a status word into the place of a response of any kind.
+#[inline(never)]
+fn put_word_anew(phase: Phase, thread: Tid, status: Status, response: &mut Response)
+    ensures { response.new ≡ Response.Status phase thread status }
+{
+    *response = Response::Status {
+        phase,
+        thread,
+        status,
+    };
+}
+
+/// Puts a status word into the place of a response. Most stand where another stood, and a whole response is longer.
+#[inline(always)]
+fn put_word(phase: Phase, thread: Tid, status: Status, response: &mut Response)
+    ensures { response.new ≡ Response.Status phase thread status }
+{
+    match response {
+        Response::Status {
+            phase: old_phase,
+            thread: old_thread,
+            status: old_status,
+        } => {
+            *old_phase = phase;
+            *old_thread = thread;
+            *old_status = status;
+        }
+        _ => put_word_anew(phase, thread, status, response),
+    }
+}
+
+/// Puts the thread's status word, with its phase, into the place of a response.
+pub(crate) fn put_status(kernel: &Kernel, thread: Tid, response: &mut Response)
+    ensures { IsStatus thread ((seen kernel.now).thread thread) response.new }
+{
+    kernel.is_sound();
+    match (kernel.status(thread), kernel.state(thread)) {
+        (Some(status), Some(state)) => put_word(state.phase, thread, status, response),
+        _ => put_unknown(response),
+    }
+}
+
 /// The thread's status word, with its phase.
 fn status(kernel: &Kernel, thread: Tid) -> Response
     ensures { IsStatus thread ((seen kernel.now).thread thread) result }
 {
-    kernel.is_sound();
-    match (kernel.status(thread), kernel.state(thread)) {
-        (Some(status), Some(state)) => Response::Status {
-            thread,
-            status,
-            phase: state.phase,
-        },
-        _ => Response::Refused(Refusal::UnknownThread),
-    }
+    let mut told = Response::Opened;
+    put_status(kernel, thread, &mut told);
+    told
 }
 
 /// Whether the CPU's agent sleeps.

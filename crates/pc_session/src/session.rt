@@ -13,7 +13,7 @@ ghost use Rattle.pc_world.specs.Steps.{Step};
 ghost use Rattle.pc_session.specs.Inner.Sessions.{Answers, IsReplied, Steps, is_session};
 ghost use Rattle.pc_session.specs.Standing.{LeadsToWorld, ShowsEnclave, StandsAfter, lent};
 
-use crate::reads::answer_of;
+use crate::reads::{answer_of, put_status};
 use pc_calls::{Event, LimitsFault, Profile, Refusal, Reply};
 use pc_messages::Cpu;
 use pc_policy::{AgentPolicy, PolicyName};
@@ -46,19 +46,19 @@ fn open(
     alloc: Global,
     profile: Profile,
     enclave: &mut Option<Enclave>,
-    command: Command,
+    command: &Command,
     response: &mut Response,
 ) -> Result<(), AllocError>
     requires { enclave.old ≡ None }
-    ensures ok { OnOk result (Steps profile command enclave.old enclave.new response.new) }
-    ensures no_memory { OnErr result (TakesMemory profile None command) }
+    ensures ok { OnOk result (Steps profile command.now enclave.old enclave.new response.new) }
+    ensures no_memory { OnErr result (TakesMemory profile None command.now) }
     ensures kept { OnErr result (response.new ≡ response.old) }
 {
     let Command::Enclave(limits) = command else {
         *response = Response::NoEnclave;
         return Ok(());
     };
-    match World::new_in(alloc, profile, limits) {
+    match World::new_in(alloc, profile, *limits) {
         Ok(world) => {
             *enclave = Some(Enclave {
                 world,
@@ -72,6 +72,14 @@ fn open(
     Ok(())
 }
 
+/// Answers an `enclave` that meets a world.
+#[inline(never)]
+fn refuse_another(response: &mut Response)
+    ensures { response.new ≡ Response.HaveEnclave }
+{
+    *response = Response::HaveEnclave;
+}
+
 /// Answers a policy. Where no event was taken yet, a world with the same limits is opened in the place of the old one,
 /// which nothing has changed.
 #[inline(never)]
@@ -79,10 +87,10 @@ fn rule(
     alloc: Global,
     profile: Profile,
     enclave: &mut Enclave,
-    policy: PolicyName,
+    policy: &PolicyName,
     response: &mut Response,
 ) -> Result<(), AllocError>
-    ensures ok { OnOk result (Answers (Command.Policy policy) enclave.old enclave.new response.new) }
+    ensures ok { OnOk result (Answers (Command.Policy policy.now) enclave.old enclave.new response.new) }
     ensures no_memory { OnErr result (IsTrue enclave.old.is_untouched) }
     ensures kept { OnErr result ((response.new ≡ response.old) × (enclave.new ≡ enclave.old)) }
 {
@@ -91,11 +99,11 @@ fn rule(
         return Ok(());
     }
     let limits = enclave.world.kernel().limits();
-    let policies = AgentPolicy::for_each(alloc, policy, limits.cpus)?;
+    let policies = AgentPolicy::for_each(alloc, *policy, limits.cpus)?;
     match World::new_by(alloc, profile, limits, policies.as_slice()) {
         Ok(world) => {
             enclave.world = world;
-            *response = Response::Ruled(policy);
+            *response = Response::Ruled(*policy);
             Ok(())
         }
         // The limits were within their ranges when the old world was opened, so memory is wanting.
@@ -155,15 +163,36 @@ fn mend(met: &mut Enclave, cpu: Cpu, response: &mut Response) -> Result<(), Allo
     }
 }
 
-/// Answers a question.
+/// Puts what a question is answered into the place of a response of any kind.
 #[inline(never)]
-fn tell(alloc: Global, world: &World, read: Read, response: &mut Response) -> Result<(), AllocError>
+fn tell_anew(
+    alloc: Global,
+    world: &World,
+    read: Read,
+    response: &mut Response,
+) -> Result<(), AllocError>
     ensures ok { OnOk result ((w : PlainWorld) → ShowsWorld world.now w → IsRead w read response.new) }
     ensures no_memory { OnErr result ((w : PlainWorld) → ShowsWorld world.now w → TakesMemoryToRead w read) }
     ensures kept { OnErr result (response.new ≡ response.old) }
 {
     *response = answer_of(alloc, world, read)?;
     Ok(())
+}
+
+/// Answers a question. Most are of status words.
+#[inline(never)]
+fn tell(alloc: Global, world: &World, read: Read, response: &mut Response) -> Result<(), AllocError>
+    ensures ok { OnOk result ((w : PlainWorld) → ShowsWorld world.now w → IsRead w read response.new) }
+    ensures no_memory { OnErr result ((w : PlainWorld) → ShowsWorld world.now w → TakesMemoryToRead w read) }
+    ensures kept { OnErr result (response.new ≡ response.old) }
+{
+    match read {
+        Read::Status { thread } => {
+            put_status(world.kernel(), thread, response);
+            Ok(())
+        }
+        _ => tell_anew(alloc, world, read, response),
+    }
 }
 
 /// Answers a command that meets a world.
@@ -181,13 +210,13 @@ fn act(
     ensures kept { OnErr result (response.new ≡ response.old) }
 {
     match command {
-        Command::Enclave(_) => *response = Response::HaveEnclave,
+        Command::Enclave(_) => refuse_another(response),
         Command::Event(event) => {
             enclave.is_untouched = false;
             step(&mut enclave.world, event, response)?;
         }
         Command::Read(read) => tell(alloc, &enclave.world, *read, response)?,
-        Command::Policy(policy) => rule(alloc, profile, enclave, *policy, response)?,
+        Command::Policy(policy) => rule(alloc, profile, enclave, policy, response)?,
         Command::Mend { cpu } => mend(enclave, *cpu, response)?,
     }
     Ok(())
@@ -215,7 +244,7 @@ impl Machine for Session {
                 self.alloc,
                 self.profile,
                 &mut self.enclave,
-                *command,
+                command,
                 response,
             ),
             Some(enclave) => act(self.alloc, self.profile, enclave, command, response),

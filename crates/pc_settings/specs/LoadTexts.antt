@@ -3,7 +3,8 @@ use Rattle.std.specs.Prelude.{ℕ, ℤ, pos, ◌≡◌, ◌⊎◌, false, List, 
 use Rattle.std.specs.Prelude.{Option, Some, None, Result, Ok, Err, unwrap_or, option_map, codes}
 use Rattle.toml.specs.Data.{Members}
 use Rattle.pc_load.specs.Loads.{Need, Demand, demand, end_of, fault_of}
-use Rattle.pc_load.specs.Variants.{Choice, or_plain, plain, variant_fault}
+use Rattle.pc_load.specs.Variants.{Choice, or_plain, plain, plain_order, variant_fault}
+use Rattle.pc_policy.specs.Names.{order_of}
 use Rattle.pc_load.specs.declared.load.Load.{Load}
 use Rattle.pc_load.specs.declared.variant.Variants.{Variants}
 use Rattle.pc_settings.specs.Keys.{first_some, of_each, unless, integer_at, integer_or, integers_at, switch_or}
@@ -52,7 +53,7 @@ need_told told = record {
 abbrev pub choice_told : Members → Choice
 choice_told variant = record {
   name = unwrap_or (text_at (codes "name") variant) [];
-  order = unwrap_or (text_or plain.order (codes "order") variant) [];
+  order = order_of (unwrap_or (text_or plain_order (codes "order") variant) []);
   steals = unwrap_or (text_or plain.steals (codes "steals") variant) [];
   quantum = unwrap_or (integer_or plain.quantum (codes "quantum") variant) (pos 0);
   group = unwrap_or (integer_or plain.group (codes "group") variant) (pos 0);
@@ -98,7 +99,7 @@ thread_faults thread =
 abbrev pub choice_faults : Members → List (Option LoadTextFault)
 choice_faults variant =
     unless (text_at (codes "name") variant) (BadField field.Name)
-    ∷ unless (text_or plain.order (codes "order") variant) (BadField field.Order)
+    ∷ unless (text_or plain_order (codes "order") variant) (BadField field.Order)
     ∷ unless (text_or plain.steals (codes "steals") variant) (BadField field.Steals)
     ∷ unless (integer_or plain.quantum (codes "quantum") variant) (BadField field.Quantum)
     ∷ unless (integer_or plain.group (codes "group") variant) (BadField field.Group)

@@ -4,7 +4,7 @@ use crate::end;
 use crate::met::{Met, Source};
 use crate::streams::{Noted, Opening, screen_of};
 use pc_program::{Ending, Failure, VariantsFrom};
-use pc_trial::{LabEnding, LabOutput, MOST_LOAD, Progress, Unread, try_load, try_variants};
+use pc_trial::{LabEnding, LabOutput, MOST_LOAD, Progress, Stall, Unread, try_load, try_variants};
 use std::io::{self, BufWriter, Write};
 use std::process::ExitCode;
 
@@ -36,6 +36,16 @@ fn said(rt: &HostRuntime, ending: LabEnding, from: Option<&Source>, trouble: &Ve
         let _ = rt.stderr().write_all(trouble.as_slice());
     }
     ExitCode::from(ending.status())
+}
+
+/// Says which run stalled first, where all is told of the runs, and of which text its variant is, if there are two.
+fn say_stall(rt: &HostRuntime, ending: LabEnding, from: Option<&Source>, stall: Option<Stall>) {
+    if let (LabEnding::Finished, Some(stall)) = (ending, stall) {
+        let _ = match from {
+            Some(from) => eprintln!(rt; "pc-sim: {from}: {stall}"),
+            None => eprintln!(rt; "pc-sim: {stall}"),
+        };
+    }
 }
 
 /// Where other variants come from, if they are of another text than the load.
@@ -144,6 +154,7 @@ fn try_one<W: Write + Drop>(
         source,
         said: load.fault(),
     };
+    say_stall(rt, ending, None, progress.first_stall());
     end_lab(rt, ending, given, None, writer.get_ref().fault(), trouble)
 }
 
@@ -176,6 +187,7 @@ fn try_both<W: Write + Drop>(
         source: others,
         said: variants.fault(),
     };
+    say_stall(rt, ending, Some(others), progress.first_stall());
     end_lab(
         rt,
         ending,

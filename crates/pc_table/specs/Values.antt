@@ -10,7 +10,7 @@ use Rattle.pc_lab.specs.declared.counted.Counted.TheVariants.{PreemptSpent, Wake
 use Rattle.pc_lab.specs.declared.counted.Counted.TheVariants.{PickStale, PickNothingReady, StealNothing, StealDead}
 use Rattle.pc_lab.specs.declared.counted.Counted.TheVariants.{StealStale, SleepStale}
 use Rattle.pc_lab.specs.declared.summary.RunEnding.{RunEnding}
-use Rattle.pc_lab.specs.declared.summary.RunEnding.TheVariants.{Done, Until, NumbersSpent}
+use Rattle.pc_lab.specs.declared.summary.RunEnding.TheVariants.{Done, Until, NumbersSpent, Stalled}
 use Rattle.pc_lab.specs.declared.summary.Summary.{Summary}
 use Rattle.pc_lab.specs.declared.times.CpuTime.{CpuTime}
 use Rattle.pc_table.specs.Percentiles.{percentile, ticks_of}
@@ -30,6 +30,7 @@ abbrev pub ending_word : RunEnding → List ℕ
 ending_word Done = codes "done"
 ending_word Until = codes "until"
 ending_word NumbersSpent = codes "NumbersSpent"
+ending_word (Stalled thread) = codes "stalled"
 
 -- the name of a count
 abbrev pub count_name : Counted → List ℕ

@@ -15,6 +15,7 @@ pub(crate) const fn ending_word(ending: RunEnding) -> &'static str
         RunEnding::Done => "done",
         RunEnding::Until => "until",
         RunEnding::NumbersSpent => "NumbersSpent",
+        RunEnding::Stalled(_) => "stalled",
     }
 }
 

@@ -9,6 +9,7 @@ use pc_lab::{
 };
 use pc_load::{Load, LoadStep, ThreadDraft, Variant, VariantDraft, Variants};
 use pc_messages::{Cpu, Tid};
+use pc_policy::PolicyName;
 use pc_table::{Column, figures_of, text_of};
 use pc_trial::{
     CompareFault, Form, Layout, SoFar, Watcher, compare, compare_watched, picture_of,
@@ -181,6 +182,97 @@ fn a_run_that_adds_up_is_told(rt: HostRuntime) {
     assert!(rt; judged == [true, false, true]);
 }
 
+/// A policy with a quantum, and what comes of the two threads: at which the run stalls, when it ends, and how often who
+/// runs was preempted. All rows are worked out by hand.
+#[derive(Clone, Copy)]
+struct Ranked {
+    policy: &'static str,
+    quantum: u32,
+    stalled: Option<u32>,
+    makespan: u64,
+    preempts: u64,
+}
+
+const fn row_of(
+    policy: &'static str,
+    quantum: u32,
+    stalled: Option<u32>,
+    makespan: u64,
+    preempts: u64,
+) -> Ranked {
+    Ranked {
+        policy,
+        quantum,
+        stalled,
+        makespan,
+        preempts,
+    }
+}
+
+fn variant_by(alloc: Global, row: &Ranked) -> Result<Variant, LabFault> {
+    let Ok(policy) = PolicyName::read(row.policy.as_bytes()) else {
+        return Err(LabFault::TooLong);
+    };
+    Ok(Variant {
+        name: b"ranked".as_slice().to_vec(alloc)?,
+        policy,
+        quantum: row.quantum,
+        group: 64,
+        delay: 0,
+        cost: 0,
+        urgent: false,
+        keep: false,
+    })
+}
+
+/// The thread at which a run stalled.
+const fn stalled_at(ending: RunEnding) -> Option<u32> {
+    match ending {
+        RunEnding::Stalled(thread) => Some(thread.0),
+        RunEnding::Done | RunEnding::Until | RunEnding::NumbersSpent => None,
+    }
+}
+
+fn is_as_worked_out(alloc: Global, load: &Load, row: &Ranked) -> Result<bool, LabFault> {
+    let variant = variant_by(alloc, row)?;
+    let summary = summary_of(alloc, load, &variant)?;
+    Ok(
+        stalled_at(summary.ending) == row.stalled
+            && summary.makespan == row.makespan
+            && summary.preempts == row.preempts,
+    )
+}
+
+/// The place of the first row that comes out otherwise.
+fn first_other(alloc: Global) -> Result<Option<usize>, LabFault> {
+    let load = two_threads(alloc)?;
+    let rows = [
+        row_of("rank ran", 0, None, 8, 0),
+        // Nobody is ever run.
+        row_of("rank none", 0, Some(0), 0, 0),
+        // The first is left out, and waits when the second is dead.
+        row_of("rank if thread == 0 then none else 0", 0, Some(0), 5, 0),
+        // The first has as good a rank as the second once it ran for 2 ticks, and gives way at that quantum's end.
+        row_of("rank if thread == 0 then ran / 2 else 1", 1, None, 8, 2),
+        // They take turns, until the first loses its rank at tick 3; the second does at 4, and goes on alone.
+        row_of("rank if ran < 2 then 0 else none", 1, Some(0), 7, 3),
+        // Who runs is never worse off for it, so none gives way to the other.
+        row_of("rank 9 - ran", 1, None, 8, 0),
+    ];
+    for place in 0..rows.len() {
+        if !is_as_worked_out(alloc, &load, &rows[place])? {
+            return Ok(Some(place));
+        }
+    }
+    Ok(None)
+}
+
+#[test]
+fn a_load_is_played_by_ranks(rt: HostRuntime) {
+    let other = first_other(rt.alloc()).expect(&rt, "ample memory");
+    assert!(rt; other == None);
+}
+
 /// A watcher who keeps what it was told last, and counts how often.
 #[derive(Clone, Copy)]
 struct Kept {
@@ -193,6 +285,8 @@ impl Watcher for Kept {
         self.times = self.times.saturating_add(1);
         self.last = Some(so_far);
     }
+
+    fn stalled(&mut self, _variant: usize, _thread: Tid) {}
 }
 
 impl Kept {

@@ -1,10 +1,12 @@
-//! Tests of ranks by expressions, by the library's public names alone.
+//! Tests of ranks by expressions and of policies by their texts, by the library's public names alone.
 #![tactic(auto)]
 
 #[cfg(test)]
 mod faults;
 #[cfg(test)]
 mod limits;
+#[cfg(test)]
+mod policies;
 #[cfg(test)]
 mod ranks;
 #[cfg(test)]

@@ -7,7 +7,7 @@ ghost use Rattle.pc_trial.specs.Comparing.{Compares, Draws, IsOfRuns, IsRunOf};
 use crate::fault::{CompareFault, untold_fault_of};
 use crate::watcher::{Nobody, SoFar, Watcher};
 use pc_curves::picture_of as waits_of;
-use pc_lab::{Chronicle, play};
+use pc_lab::{Chronicle, RunEnding, play};
 use pc_load::{Load, Variant, Variants};
 use pc_table::{Column, Form, text_of};
 use std::alloc::Global;
@@ -30,6 +30,14 @@ fn column_of<'a>(
     }
 }
 
+/// Tells a watcher of the run under the variant with this place, if it stalled.
+fn tell_stall<W: Watcher>(watcher: &mut W, variant: usize, ending: &RunEnding) {
+    match ending {
+        RunEnding::Stalled(thread) => watcher.stalled(variant, *thread),
+        RunEnding::Done | RunEnding::Until | RunEnding::NumbersSpent => {}
+    }
+}
+
 /// A run of the load under each variant, of each of which the watcher is told.
 fn columns_of<'a, W: Watcher>(
     alloc: Global,
@@ -45,6 +53,7 @@ fn columns_of<'a, W: Watcher>(
     for variant in variants {
         let column = column_of(alloc, load, variant)?;
         events = events.saturating_add(column.summary.events);
+        tell_stall(watcher, columns.len(), &column.summary.ending);
         columns.push(column)?;
         let (all, played) = (variants.len(), columns.len());
         watcher.played(SoFar {

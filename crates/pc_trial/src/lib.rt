@@ -24,7 +24,7 @@ pub use fault::CompareFault;
 pub use output::LabOutput;
 pub use pc_settings::Unread;
 pub use pc_table::{Form, Layout};
-pub use progress::Progress;
+pub use progress::{Progress, Stall};
 pub use script::script_of;
 pub use stages::MOST_LOAD;
 pub use tried::{try_load, try_variants};

@@ -1,10 +1,11 @@
-//! How far the lab is, and the line by which a person at a terminal sees that.
+//! How far the lab is, the line by which a person at a terminal sees that, and the first run that stalled.
 
-ghost use Rattle.std.specs.Prelude.{◌≡◌, ◌↔◌, [], Some, IsTrue, OnOk};
+ghost use Rattle.std.specs.Prelude.{◌≡◌, ◌↔◌, [], None, Some, IsTrue, OnOk};
 ghost use Rattle.std.specs.Io.KnownBytes.{Appends};
-ghost use Rattle.pc_trial.specs.Progress.{IsDue, in_place, progress_text};
+ghost use Rattle.pc_trial.specs.Progress.{IsDue, in_place, progress_text, stall_text};
 
 use crate::watcher::{SoFar, Watcher};
+use pc_messages::Tid;
 use std::fmt;
 use std::io::{self, Write};
 
@@ -50,6 +51,27 @@ fn write_nothing<S: Write>(screen: &mut S) -> io::Result<()>
     write!(screen, "\r\x1b[K")
 }
 
+/// A run that stalled (own): under the variant with this place, and at this thread.
+#[derive(Clone, Copy, Debug, PartialEq, Eq)]
+pub struct Stall {
+    pub variant: usize,
+    pub thread: Tid,
+}
+
+/// What stands on standard error, behind the program's name.
+impl fmt::Display for Stall {
+    ghost output = { λ stall. Some (stall_text stall) };
+
+    fn fmt<W: fmt::Write>(&self, f: &mut fmt::Formatter<W>) -> fmt::Result {
+        let variant = self.variant;
+        let thread = self.thread.index();
+        write!(
+            f,
+            "variant {variant}: thread {thread} waits, and no agent will run it"
+        )
+    }
+}
+
 /// What those who watch the lab are told of how far it is (own).
 ///
 /// Whoever looks at the screen, where there is one, is told meanwhile. What cannot be written is passed over: the lab
@@ -59,6 +81,8 @@ pub struct Progress<S: Write + Drop> {
     screen: Option<S>,
     /// The events that the last line told, 0 before the first one.
     told: u64,
+    /// The first run that stalled.
+    stall: Option<Stall>,
 }
 
 impl<S: Write + Drop> Progress<S> {
@@ -66,8 +90,20 @@ impl<S: Write + Drop> Progress<S> {
     pub fn new(screen: Option<S>) -> Progress<S>
         ensures screen { result.screen ≡ screen }
         ensures untold { result.told ≡ 0 }
+        ensures none { result.stall ≡ None }
     {
-        Progress { screen, told: 0 }
+        Progress {
+            screen,
+            told: 0,
+            stall: None,
+        }
+    }
+
+    /// The first run that stalled, of those that were played.
+    pub fn first_stall(&self) -> Option<Stall>
+        ensures { result ≡ self.now.stall }
+    {
+        self.stall
     }
 
     /// All is played that is to be: where a line was written, nothing is left of it.
@@ -86,7 +122,7 @@ impl<S: Write + Drop> Progress<S> {
 }
 
 impl<S: Write + Drop> Watcher for Progress<S> {
-    ghost use Rattle.std.specs.Prelude.{◌≡◌};
+    ghost use Rattle.std.specs.Prelude.{◌≡◌, Some, unwrap_or};
     ghost use Rattle.pc_trial.specs.Progress.{IsDue};
 
     fn played(&mut self, so_far: SoFar)
@@ -98,6 +134,17 @@ impl<S: Write + Drop> Watcher for Progress<S> {
         if let Some(screen) = &mut self.screen {
             self.told = so_far.events;
             let _ = write_line(screen, &Line { so_far });
+        }
+    }
+
+    fn stalled(&mut self, variant: usize, thread: Tid)
+        ensures first { self.new.stall
+            ≡ Some (unwrap_or self.old.stall (record { variant = variant; thread = thread })) }
+        ensures screen { self.new.screen ≡ self.old.screen }
+        ensures told { self.new.told ≡ self.old.told }
+    {
+        if self.stall.is_none() {
+            self.stall = Some(Stall { variant, thread });
         }
     }
 }

@@ -1,4 +1,6 @@
-//! Who is told how many runs were played.
+//! Who is told how many runs were played, and which stalled.
+
+use pc_messages::Tid;
 
 /// How far the runs of a load are (own).
 #[derive(Clone, Copy, Debug, PartialEq, Eq)]
@@ -15,6 +17,9 @@ pub struct SoFar {
 pub trait Watcher {
     /// One run more was played.
     fn played(&mut self, so_far: SoFar);
+
+    /// The run under the variant with this place, which was played last, stalled at this thread.
+    fn stalled(&mut self, variant: usize, thread: Tid);
 }
 
 /// A watcher whom it does not matter.
@@ -23,4 +28,6 @@ pub(crate) struct Nobody;
 
 impl Watcher for Nobody {
     fn played(&mut self, _so_far: SoFar) {}
+
+    fn stalled(&mut self, _variant: usize, _thread: Tid) {}
 }

@@ -6,17 +6,19 @@ use crate::telling::{CommandContext, refusals};
 use crate::words::Count;
 use pc_calls::{Event, Refusal, Reply};
 use pc_messages::{Cpu, Reported, Tid};
-use pc_policy::{OrderName, PolicyName};
+use pc_policy::{OrderName, Policy, PolicyName};
 use std::fmt::{self, Write};
 
 /// All agents go by a policy.
-pub(super) fn ruled(text: &mut Sentences, policy: PolicyName) -> fmt::Result {
+pub(super) fn ruled(text: &mut Sentences, policy: &PolicyName) -> fmt::Result {
     let order = match policy.order {
         OrderName::Levels => "the highest level runs first, and within a level who came first",
         OrderName::Fifo => "who came first runs first",
         OrderName::LeastRan => "the thread that ran for the fewest ticks runs first",
         OrderName::LevelsThenLeastRan =>
             "the highest level runs first, and within a level the thread that ran for the fewest ticks",
+        OrderName::Rank(_) =>
+            "the thread of the least rank runs first, and where the expression gives none the thread is left out",
     };
     writeln!(
         text,
@@ -50,7 +52,7 @@ pub(super) fn chosen(
     scene: &CommandContext<'_>,
 ) -> fmt::Result {
     let policy = scene.policy;
-    if policy == PolicyName::USUAL {
+    if policy.is_usual() {
         return Ok(());
     }
     match (event, reply) {
@@ -76,13 +78,13 @@ pub(super) fn chosen(
 /// Which rank a thread has by what the CPU's agent knows.
 fn rank(
     text: &mut Sentences,
-    policy: PolicyName,
+    policy: &PolicyName,
     cpu: Cpu,
     thread: Tid,
     scene: &CommandContext<'_>,
 ) -> fmt::Result {
     match reported(cpu, thread, scene) {
-        Some(reported) => rank_of(text, policy.order, cpu, &reported),
+        Some(reported) => rank_of(text, &policy.order, cpu, thread, &reported),
         None => Ok(()),
     }
 }
@@ -93,11 +95,17 @@ fn reported(cpu: Cpu, thread: Tid, scene: &CommandContext<'_>) -> Option<Reporte
 }
 
 /// The rank of a thread of which this is known.
-fn rank_of(text: &mut Sentences, order: OrderName, cpu: Cpu, reported: &Reported) -> fmt::Result {
+fn rank_of(
+    text: &mut Sentences,
+    order: &OrderName,
+    cpu: Cpu,
+    thread: Tid,
+    reported: &Reported,
+) -> fmt::Result {
     let agent = cpu.index();
     let level = reported.level.get();
     let ticks = Count(reported.ran, "tick");
-    match order {
+    match *order {
         OrderName::Levels => writeln!(
             text,
             "By what agent {agent} knows its rank is that of level {level}."
@@ -114,11 +122,15 @@ fn rank_of(text: &mut Sentences, order: OrderName, cpu: Cpu, reported: &Reported
             text,
             "By what agent {agent} knows its rank is that of level {level}, and of {ticks} within it."
         ),
+        OrderName::Rank(_) => match order.rank(cpu, thread, reported) {
+            Some(rank) => writeln!(text, "By what agent {agent} knows its rank is {rank}."),
+            None => Ok(()),
+        },
     }
 }
 
 /// Why a steal took its thread.
-fn stolen(text: &mut Sentences, policy: PolicyName, cpu: Cpu) -> fmt::Result {
+fn stolen(text: &mut Sentences, policy: &PolicyName, cpu: Cpu) -> fmt::Result {
     let agent = cpu.index();
     if policy.exact {
         write!(text, "Of the threads that agent {agent} may take ")?;

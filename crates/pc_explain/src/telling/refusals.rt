@@ -14,6 +14,10 @@ use pc_messages::{Cpu, GREATEST_NUMBER, Tid};
 use pc_world::World;
 use std::fmt::{self, Write};
 
+/// Why an exact steal finds nothing.
+const NO_EXACT_STEAL: &str =
+    "of the threads that the view reports ready and allowed here, outside the run list and idle, none is known to its last message and has a rank";
+
 /// A refusal of what a line asks for: why, how much there is of what it names, and what would make it accepted.
 pub(super) fn refused(
     text: &mut Sentences,
@@ -21,7 +25,10 @@ pub(super) fn refused(
     refusal: &Refusal,
     scene: &CommandContext<'_>,
 ) -> fmt::Result {
-    why(text, deed, refusal)?;
+    match refusal {
+        Refusal::NothingToSteal if scene.policy.exact => because(text, NO_EXACT_STEAL)?,
+        _ => why(text, deed, refusal)?,
+    }
     match scene.world {
         Some(world) => {
             tried(text, deed, refusal, world)?;

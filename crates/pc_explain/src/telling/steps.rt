@@ -10,10 +10,10 @@ use std::fmt::{self, Write};
 pub(super) fn advised(
     text: &mut Sentences,
     world: &World,
-    policy: PolicyName,
+    policy: &PolicyName,
     deed: &Deed,
 ) -> fmt::Result {
-    match advise(world, policy, deed) {
+    match advise(world, *policy, deed) {
         Advice::Steps(plan) => steps(text, &plan),
         Advice::NoAgent => writeln!(text, "No agent can make it accepted."),
         Advice::Never => writeln!(text, "Nothing makes it accepted."),

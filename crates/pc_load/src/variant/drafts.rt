@@ -64,7 +64,7 @@ fn variant_of(alloc: Global, draft: &VariantDraft<'_>) -> Result<Option<Variant>
     if !is_name(name) {
         return Ok(None);
     }
-    let Some(order) = OrderName::named(draft.order.as_bytes()) else {
+    let Ok(order) = OrderName::read(draft.order.as_bytes()) else {
         return Ok(None);
     };
     let Some(stealing) = Stealing::named(draft.steals.as_bytes()) else {

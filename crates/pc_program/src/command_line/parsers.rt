@@ -144,8 +144,8 @@ const LIMIT: &str = "gives the run up after so many seconds";
 const TO_SCRIPT: &str = "also writes the calls of the run as a script, into this file";
 
 const POLICY: &str =
-    "by which agents run and steal threads: levels (the default), fifo, least-ran or \
-     levels-then-least-ran, and ` exact` behind it where steals are exact";
+    "by which agents run and steal threads: levels (the default), fifo, least-ran, levels-then-least-ran or \
+     rank EXPRESSION, and ` exact` behind it where steals are exact";
 
 const SEED: &str =
     "runs the agents in one thread, where this number (0 to 18446744073709551615) draws whose step is next";

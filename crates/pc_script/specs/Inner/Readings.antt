@@ -1,7 +1,7 @@
 -- Reading the words of a command.
 use Rattle.std.specs.Prelude.{◌≡◌, ℕ, Bool, true, false, List, ◌++◌, map, Option, Some, None}
 use Rattle.pc_script.specs.Grammar.{Field, Processors, Processor, Queue, Level, Count, Mask, Index, Thread, State}
-use Rattle.pc_script.specs.Grammar.{Target, Failure, Order, Exactness}
+use Rattle.pc_script.specs.Grammar.{Target, Failure, Policy}
 use Rattle.pc_script.specs.Grammar.{field_words, IsInRange, words_of, AreInRange, Spells}
 use Rattle.pc_script.specs.declared.command.Command.{Command}
 use Rattle.pc_script.specs.declared.line.Asks.{Asks}
@@ -33,8 +33,7 @@ pub data Kind : Type 0 where
   state : Kind
   target : Kind
   failure : Kind
-  order : Kind
-  exactness : Kind
+  policy : Kind
 
 abbrev pub kind_of : Field → Kind
 kind_of (Processors number) = processors
@@ -48,13 +47,12 @@ kind_of (Thread t) = thread
 kind_of (State is_ready) = state
 kind_of (Target cpu) = target
 kind_of (Failure fails) = failure
-kind_of (Order named) = order
-kind_of (Exactness exact) = exactness
+kind_of (Policy named) = policy
 
 -- a field of this kind is always one word
 abbrev pub is_word : Kind → Bool
 is_word failure = false
-is_word exactness = false
+is_word policy = false
 is_word _ = true
 
 abbrev pub kinds_of : List Field → List Kind

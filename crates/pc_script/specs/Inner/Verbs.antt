@@ -1,21 +1,22 @@
 -- The first words of commands, and the fields after each.
-use Rattle.std.specs.Prelude.{ℕ, Bool, false, List, [], ◌∷◌, Option, None, zero, suc}
+use Rattle.std.specs.Prelude.{◌≡◌, ℕ, Bool, false, List, [], ◌∷◌, Option, None, zero, suc}
 use Rattle.pc_calls.specs.declared.call.AgentCall.TheVariants as agent_call
 use Rattle.pc_calls.specs.declared.call.EnvCall.TheVariants as env
 use Rattle.pc_calls.specs.declared.event.Event.TheVariants as event
 use Rattle.pc_script.specs.Grammar.{Field, Processors, Processor, Queue, Level, Count, Mask, Index, Thread, State}
-use Rattle.pc_script.specs.Grammar.{Target, Failure, Order, Exactness, row_of}
+use Rattle.pc_script.specs.Grammar.{Target, Failure, Policy, AreInRange, row_of, spaced, words_of}
 use Rattle.pc_script.specs.Inner.Readings.{Kind, kinds_of}
 use Rattle.pc_script.specs.declared.command.Command.{Command}
 use Rattle.pc_script.specs.declared.command.Command.TheVariants as command
-use Rattle.pc_policy.specs.declared.named.OrderName.{OrderName}
+use Rattle.pc_policy.specs.Names.{IsPolicy}
 use Rattle.pc_policy.specs.declared.named.OrderName.TheVariants.{Levels}
+use Rattle.pc_policy.specs.declared.named.PolicyName.{PolicyName}
 use Rattle.pc_script.specs.declared.command.Read.TheVariants as read
 use Rattle.pc_script.specs.declared.grammar.Verb.{Verb}
 use Rattle.pc_script.specs.declared.grammar.Verb.TheVariants as verb
 
--- a field's number, how a thread starts, whom a queue wakes, whether a send fails, an order, whether steals are exact;
--- of another field anything
+-- a field's number, how a thread starts, whom a queue wakes, whether a send fails, what agents go by; of another field
+-- anything
 abbrev pub number_in : Field → ℕ
 number_in (Processors number) = number
 number_in (Processor cpu) = cpu
@@ -28,8 +29,7 @@ number_in (Thread thread) = thread
 number_in (State is_ready) = 0
 number_in (Target cpu) = 0
 number_in (Failure fails) = 0
-number_in (Order named) = 0
-number_in (Exactness exact) = 0
+number_in (Policy named) = 0
 
 abbrev pub state_in : Field → Bool
 state_in (State is_ready) = is_ready
@@ -43,13 +43,9 @@ abbrev pub failure_in : Field → Bool
 failure_in (Failure fails) = fails
 failure_in _ = false
 
-abbrev pub order_in : Field → OrderName
-order_in (Order named) = named
-order_in _ = Levels
-
-abbrev pub exactness_in : Field → Bool
-exactness_in (Exactness exact) = exact
-exactness_in _ = false
+abbrev pub policy_in : Field → PolicyName
+policy_in (Policy named) = named
+policy_in _ = record { order = Levels; exact = false }
 
 -- the field at a place, and what it holds
 abbrev pub field_at : ℕ → List Field → Field
@@ -96,8 +92,7 @@ back verb.Asleep f = command.Read (read.Asleep (number_at 0 f))
 back verb.Show f = command.Read (read.Show (number_at 0 f))
 back verb.Same f = command.Read (read.Same (number_at 0 f) (number_at 1 f))
 back verb.Complete f = command.Read (read.Complete (number_at 0 f) (number_at 1 f))
-back verb.Policy f =
-    command.Policy (record { order = order_in (field_at 0 f); exact = exactness_in (field_at 1 f) })
+back verb.Policy f = command.Policy (policy_in (field_at 0 f))
 back verb.Mend f = command.Mend (number_at 0 f)
 
 -- a verb's word, and the kinds of the fields after it, as the table has them
@@ -106,3 +101,8 @@ name_of verb = (row_of (back verb [])).name
 
 abbrev pub kinds : Verb → List Kind
 kinds verb = kinds_of (row_of (back verb [])).fields
+
+-- behind the verb no words of a command of it are left
+abbrev pub SpellsNone : Verb → List (List ℕ) → Type 0
+SpellsNone verb.Policy left = (any : PolicyName) → IsPolicy (spaced left) any → ⊥
+SpellsNone verb left = (any : List Field) → kinds_of any ≡ kinds verb → AreInRange any → left ≡ words_of any → ⊥

@@ -17,7 +17,7 @@ use pc_load::{
 };
 use pc_messages::{Cpu, Mask};
 use pc_pen::QuotedWord;
-use pc_policy::{OrderName, PolicyName, Stealing};
+use pc_policy::{OrderFault, OrderName, PolicyName, Stealing};
 use pc_script::Orders;
 use std::alloc::Global;
 use std::io::{self, Write};
@@ -220,8 +220,8 @@ fn write_variant<W: Write>(
         );
     }
     let order = text_or(plain.order, variant, Field::Order).unwrap_or("");
-    if OrderName::named(order.as_bytes()).is_none() {
-        return write_order(order, writer);
+    if let Err(fault) = OrderName::read(order.as_bytes()) {
+        return write_order(order, fault, writer);
     }
     let steals = text_or(plain.steals, variant, Field::Steals).unwrap_or("");
     if Stealing::named(steals.as_bytes()).is_none() {
@@ -238,22 +238,25 @@ fn write_variant<W: Write>(
     }
 }
 
-/// Which orders there are, where this is none; of a policy, which keys tell it.
-fn write_order<W: Write>(order: &str, writer: &mut W) -> io::Result<()> {
+/// Which orders there are, where this is none, or where its expression is none; of a policy, which keys tell it.
+fn write_order<W: Write>(order: &str, fault: OrderFault, writer: &mut W) -> io::Result<()> {
     let quoted = QuotedWord(order.as_bytes());
     write!(writer, "order \"{quoted}\": ")?;
-    match PolicyName::named(order.as_bytes()) {
-        Some(policy) => {
+    match PolicyName::read(order.as_bytes()) {
+        Ok(policy) => {
             let (order, steals) = (policy.order, policy.stealing());
             writeln!(
                 writer,
                 "order = \"{order}\" and steals = \"{steals}\" say so"
             )
         }
-        None => {
-            let orders = Orders::in_words();
-            writeln!(writer, "{orders} is wanted")
-        }
+        Err(_) => match fault {
+            OrderFault::NoOrder => {
+                let orders = Orders::in_words();
+                writeln!(writer, "{orders} is wanted")
+            }
+            OrderFault::Rank(fault) => writeln!(writer, "in the expression, {fault}"),
+        },
     }
 }
 

@@ -10,15 +10,18 @@ returns-in_default-clause-named c =
     let given : None ≡ first_value (found_of c.args.matches.now) (codes "policy") = search rules in
     subst (λ word. IsPolicy word (record { order = Levels; exact = false })) (given ∙ first_value-rows (found_of c.args.matches.now) (codes "policy")) refl
 
-pub returns-in-Some-policy_named-clause-named : goal.returns-in-Some-policy_named-clause-named
-returns-in-Some-policy_named-clause-named c =
-    let policy = c.in-Some-policy_named.policy in
+pub returns-in-Ok-clause-named : goal.returns-in-Ok-clause-named
+returns-in-Ok-clause-named c =
+    let policy = c.in-Ok.policy in
     let given : Some c.in-Some.word.now ≡ first_value (found_of c.args.matches.now) (codes "policy") = search rules in
-    subst (λ word. IsPolicy word policy) (given ∙ first_value-rows (found_of c.args.matches.now) (codes "policy")) c.in-Some-policy_named.ensures
+    let bytes : c.as_bytes.result.now ≡ c.in-Some.word.now = search rules in
+    let named : IsPolicy (Some c.in-Some.word.now) policy = subst (λ text. IsPolicy (Some text) policy) bytes c.in-Ok.ensures.ok in
+    subst (λ word. IsPolicy word policy) (given ∙ first_value-rows (found_of c.args.matches.now) (codes "policy")) named
 
-pub returns-in_ok-word-in-None-clause-wrong : goal.returns-in_ok-word-in-None-clause-wrong
-returns-in_ok-word-in-None-clause-wrong c =
-    let copied : string_bytes c.in_ok-word-in-None.word ≡ c.in-Some.word.now = search rules in
+pub returns-in_ok-word-in-Err-clause-wrong : goal.returns-in_ok-word-in-Err-clause-wrong
+returns-in_ok-word-in-Err-clause-wrong c =
+    let copied : string_bytes c.in_ok-word-in-Err.word ≡ c.in-Some.word.now = search rules in
     let given : Some c.in-Some.word.now ≡ first_value (found_of c.args.matches.now) (codes "policy") = search rules in
-    let none : NamesNone c.in-Some.word.now = c.in-None.ensures in
+    let bytes : c.as_bytes.result.now ≡ c.in-Some.word.now = search rules in
+    let none : NamesNone c.in-Some.word.now = subst NamesNone bytes c.in-Err.ensures.err in
     (refl, sym (given ∙ first_value-rows (found_of c.args.matches.now) (codes "policy")) ∙ ap Some (sym copied), subst NamesNone (sym copied) none)

@@ -8,6 +8,6 @@ use Rattle.pc_session.proofs.session.open.Goals as goal
 pub returns-in-Ok-clause-ok : goal.returns-in-Ok-clause-ok
 returns-in-Ok-clause-ok c =
     let now : Enclave = record { world = c.in-Ok.world; is_untouched = true } in
-    subst (λ old. Steps c.args.profile c.args.command old (Some now) response.Opened) (sym c.requires)
+    subst (λ old. Steps c.args.profile c.args.command.now old (Some now) response.Opened) (sym c.requires)
     (subst (λ command. Steps c.args.profile command None (Some now) response.Opened) (sym c.in-Enclave.is)
     (opens c.args.profile now c.in-Enclave.limits c.in-Ok.ensures.within c.in-Ok.ensures.ok refl))

@@ -1,6 +1,6 @@
 use Rattle.std.proofs.Common.{◌≤◌, ◌∙◌, ℕ, Option, IfSome, ap, subst}
 use Rattle.pc_kernel.specs.Reads.{Reads, seen, shown}
-use Rattle.pc_lab.proofs.Accounting.{same_account}
+use Rattle.pc_lab.proofs.Accounting.{same_account, same_stall}
 use Rattle.pc_lab.proofs.Readiness.{unended_told}
 use Rattle.pc_lab.specs.Waiting.{unended_waits}
 use Rattle.pc_lab.proofs.stage.Stage.end.Goals as goal
@@ -31,5 +31,7 @@ returns g c =
       cpus = c.in_ok-times.ensures.many ∙ c.self.invariant.3;
       times = c.in_ok-times.ensures.whole;
       adds_up = λ is. same_account c.args.load.now g.K.Setting.load c.args.keep g.K.Setting.keep (seen c.kernel-3.result.now) (shown run.plain.kernel) _ c.requires.load
-          c.requires.keep shows.reads (c.in_ok-check_account.ensures is);
+          c.requires.keep shows.reads (c.in_ok-check_account.ensures.done is);
+      stalled = λ t is. same_stall c.args.load.now g.K.Setting.load (seen c.kernel-3.result.now) (shown run.plain.kernel) t c.requires.load shows.reads
+          (c.in_ok-check_account.ensures.stalled t is);
     }

@@ -1,4 +1,4 @@
-use Rattle.std.proofs.Common.{rules, ◌∙◌, ℕ, List, [], None, sym, ap, subst}
+use Rattle.std.proofs.Common.{rules, ◌∙◌, List, [], None, sym, ap, subst}
 use Rattle.pc_calls.specs.declared.limits.Limits.{Limits}
 use Rattle.pc_load.specs.Loads.{Demand}
 use Rattle.pc_policy.specs.declared.agent_policy.AgentPolicy.{AgentPolicy}

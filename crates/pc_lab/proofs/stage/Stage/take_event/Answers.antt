@@ -1,4 +1,4 @@
-use Rattle.std.proofs.Common.{◌+◌, ◌∙◌, ℕ, Bool, Some, length, if◌then◌else◌, sym, ap, subst, arith}
+use Rattle.std.proofs.Common.{◌+◌, ◌∙◌, ℕ, Bool, Some, if◌then◌else◌, sym, ap, subst, arith}
 use Rattle.pc_lab.specs.Stages.{IsRun, MayCome, Now}
 use Rattle.pc_lab.proofs.Staging.{goes_on}
 use Rattle.pc_lab.proofs.stage.Stage.take_event.Goals as goal
