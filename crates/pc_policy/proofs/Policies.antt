@@ -7,7 +7,7 @@ use Rattle.pc_policy.specs.declared.named.OrderFault.{OrderFault}
 use Rattle.std.specs.Prelude.{bytes_eq}
 use Rattle.std.proofs.lemmas.Bool.{eq-eqb}
 use Rattle.std.proofs.lemmas.List.{append_assoc, append_cancel_right, append-nil, length-append}
-use Rattle.pc_policy.specs.Names.{Ends, IsOrder, IsOrderBefore, IsPolicy, IsRank, IsReadAgain, exact_ending, order_of, order_text, policy_text}
+use Rattle.pc_policy.specs.Names.{Ends, IsOrder, IsOrderBefore, IsPolicy, IsRank, IsReadAgain, NamesNoOrder, NamesNoPolicy, exact_ending, order_of, order_text, policy_text}
 use Rattle.pc_policy.specs.declared.named.OrderName.{OrderName}
 use Rattle.pc_policy.specs.declared.named.OrderName.TheVariants.{Levels, Fifo, LeastRan, LevelsThenLeastRan, Rank}
 use Rattle.pc_policy.specs.declared.named.PolicyName.{PolicyName}
@@ -28,6 +28,11 @@ none_before text front is none any = by_ending any.exact
         let same : h.0 ≡ front = append_cancel_right h.0 front (codes " exact") (sym h.2 ∙ is) in
         none any.order (subst (λ f. IsOrder f any.order) same h.1)
     by_ending false h = h.1 (front, is)
+
+-- where its order is named by none, no policy is named
+pub none_named : (text front : List ℕ) (exact : Bool) → text ≡ front ++ exact_ending exact → (exact ≡ false → Ends (codes " exact") text → ⊥)
+    → {fault : OrderFault} → NamesNoOrder front fault → NamesNoPolicy text fault
+none_named text front exact is whole order = record { front = front; exact = exact; is = is; whole = whole; order = order }
 
 -- what is refused is refused for this
 pub refused_so : {X : Type 0} (result : Result X OrderFault) {P : Type 0} → P → IfErr result (λ fault. P)

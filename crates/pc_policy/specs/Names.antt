@@ -4,13 +4,15 @@ use Rattle.std.specs.Prelude.{codes, drop, length, take, All, Option, Some, None
 use Rattle.pc_policy.specs.declared.agent_policy.AgentPolicy.{AgentPolicy}
 use Rattle.pc_policy.specs.declared.agent_policy.Stealing.{Stealing}
 use Rattle.pc_policy.specs.declared.agent_policy.Stealing.TheVariants.{Exact, Least}
+use Rattle.pc_policy.specs.declared.named.OrderFault.{OrderFault}
+use Rattle.pc_policy.specs.declared.named.OrderFault.TheVariants as fault
 use Rattle.pc_policy.specs.declared.named.OrderName.{OrderName}
 use Rattle.pc_policy.specs.declared.named.OrderName.TheVariants.{Levels, Fifo, LeastRan, LevelsThenLeastRan, Rank}
 use Rattle.pc_policy.specs.declared.named.PolicyName.{PolicyName}
 use Rattle.pc_policy.specs.Rankings.{ranks_named}
 use Rattle.pc_policy.specs.Rules.{Rules, rules_of}
 use Rattle.pc_rank.specs.Expressions.{Tree}
-use Rattle.pc_rank.specs.Reading.{IsReadable, IsText, expression_of}
+use Rattle.pc_rank.specs.Reading.{IsReadable, IsText, Refuses, expression_of}
 use Rattle.pc_rank.specs.Texts.{text_of}
 
 -- how orders are written: by a word, or as `rank` and an expression
@@ -39,16 +41,22 @@ abbrev pub IsOrder : List ℕ → OrderName → Type 0
 IsOrder text (Rank expression) = IsRank text expression
 IsOrder text other = text ≡ order_text other
 
--- the word for what a steal takes: the least name, or of the threads that are known entirely the best
-abbrev pub stealing_word : Stealing → List ℕ
-stealing_word Least = codes "least"
-stealing_word Exact = codes "exact"
-
 -- the word is that of an order
 abbrev pub is_order : List ℕ → Bool
 is_order word =
     bytes_eq word (order_text Levels) || bytes_eq word (order_text Fifo) || bytes_eq word (order_text LeastRan)
     || bytes_eq word (order_text LevelsThenLeastRan)
+
+-- Why a text names no order: it is no order's word and has no `rank` and space in front, or what stands behind these is
+-- refused as an expression
+abbrev pub NamesNoOrder : List ℕ → OrderFault → Type 0
+NamesNoOrder text fault.NoOrder = (is_order text ≡ false) × ((rest : List ℕ) → text ≡ codes "rank " ++ rest → ⊥)
+NamesNoOrder text (fault.Rank why) = (rest : List ℕ) × (text ≡ codes "rank " ++ rest) × Refuses rest why
+
+-- the word for what a steal takes: the least name, or of the threads that are known entirely the best
+abbrev pub stealing_word : Stealing → List ℕ
+stealing_word Least = codes "least"
+stealing_word Exact = codes "exact"
 
 -- the word is that of what a steal takes
 abbrev pub is_stealing : List ℕ → Bool
@@ -84,6 +92,14 @@ IsOrderBefore false text order = IsOrder text order × (Ends (codes " exact") te
 -- The text is one of the policy's: one of its order, and a further word where steals are exact
 abbrev pub IsPolicy : List ℕ → PolicyName → Type 0
 IsPolicy text policy = IsOrderBefore policy.exact text policy.order
+
+-- Why a text names no policy: its order, which stands in front of ` exact` where it ends so, is named by none
+pub record NamesNoPolicy (text : List ℕ) (fault : OrderFault) : Type 0 where
+  pub front : List ℕ
+  pub exact : Bool
+  pub is : text ≡ front ++ exact_ending exact
+  pub whole : exact ≡ false → Ends (codes " exact") text → ⊥
+  pub order : NamesNoOrder front fault
 
 -- what is written of the order is read again: of an expression, where it is within the limits
 abbrev pub IsReadAgain : OrderName → Type 0

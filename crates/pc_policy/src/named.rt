@@ -2,7 +2,8 @@
 
 ghost use Rattle.std.specs.Prelude.{◌≡◌, true, is_some, IfErr, IfOk, MatchOption};
 ghost use Rattle.std.specs.Result.{result_ok};
-ghost use Rattle.pc_policy.specs.Names.{IsOrder, IsPolicy, IsReadAgain, is_built_in, is_order, is_stealing, is_usual};
+ghost use Rattle.pc_policy.specs.Names.{IsOrder, IsPolicy, IsReadAgain, NamesNoOrder, NamesNoPolicy};
+ghost use Rattle.pc_policy.specs.Names.{is_built_in, is_order, is_stealing, is_usual};
 ghost use Rattle.pc_policy.specs.Names.{order_of, order_text, stealing_of, stealing_word};
 ghost use Rattle.pc_policy.specs.Rules.{is_exact};
 
@@ -87,6 +88,7 @@ impl OrderName {
     pub fn read(text: &[u8]) -> Result<OrderName, OrderFault>
         ensures ok { IfOk result (λ order. IsOrder text.now order) }
         ensures err { IfErr result (λ fault. (any : OrderName) → IsOrder text.now any → ⊥) }
+        ensures fault { IfErr result (λ fault. NamesNoOrder text.now fault) }
         ensures reads { result_ok result ≡ order_of text.now }
     {
         if let Some(order) = OrderName::named(text) {
@@ -144,6 +146,7 @@ impl PolicyName {
     pub fn read(text: &[u8]) -> Result<PolicyName, OrderFault>
         ensures ok { IfOk result (λ policy. IsPolicy text.now policy) }
         ensures err { IfErr result (λ fault. (any : PolicyName) → IsPolicy text.now any → ⊥) }
+        ensures fault { IfErr result (λ fault. NamesNoPolicy text.now fault) }
     {
         match text.strip_suffix(PolicyName::EXACT) {
             Some(front) => Ok(PolicyName {
