@@ -1,7 +1,6 @@
 -- The fields that words spell, and the command that they make.
 use Rattle.std.proofs.Common.{◌≡◌, ℕ, zero, suc, ◌<◌, ◌≤◌, ◌^◌, Bool, true, false, List, [], ◌∷◌, ◌++◌, Option, Some, None, ◌&&◌, get_or, codes, decimal, refl, sym, subst, ap, ◌∙◌, arith, append-nil}
-use Rattle.std.specs.Bool.{MatchBool}
-use Rattle.std.specs.Option.{IfSome}
+use Rattle.std.specs.Option.{IfSome, MatchOption}
 use Rattle.std.specs.Str.{bytes_eq}
 use Rattle.std.proofs.lemmas.Bool.{true≢false}
 use Rattle.std.proofs.lemmas.Fmt.{decimal_injective, decimal_digit, first_decimal}
@@ -12,13 +11,15 @@ use Rattle.pc_script.specs.Grammar.{Field, Processors, Processor, Queue, Level, 
 use Rattle.pc_policy.proofs.Policies.{one_policy, policy_neat, written_policy}
 use Rattle.pc_policy.specs.Names.{IsPolicy, IsReadAgain, policy_text}
 use Rattle.pc_policy.specs.declared.named.PolicyName.{PolicyName}
-use Rattle.pc_script.specs.Inner.Readings.{Kind, failure, kind_of, kinds_of, is_word}
+use Rattle.pc_script.specs.Inner.Readings.{Kind, command_at, failure, kind_of, kinds_of, is_word}
 use Rattle.pc_script.specs.Inner.Verbs.{SpellsNone, back, name_of, kinds}
 use Rattle.pc_script.specs.declared.command.Command.{Command}
 use Rattle.pc_script.specs.declared.command.Command.TheVariants as command
 use Rattle.pc_script.specs.declared.command.Read.TheVariants as read
 use Rattle.pc_script.specs.declared.grammar.Verb.{Verb}
 use Rattle.pc_script.specs.declared.grammar.Verb.TheVariants as verb
+use Rattle.pc_script.specs.declared.places.Commands.{Commands}
+use Rattle.pc_script.specs.declared.places.Sort.{Sort}
 use Rattle.pc_script.specs.Text.{words}
 use Rattle.pc_script.specs.declared.version.Version.{Version}
 use Rattle.pc_script.proofs.Spaces.{neat_text}
@@ -318,11 +319,11 @@ no_row word rest none (command.Read question) h =
 no_row word rest none (command.Mend cpu) h = no_row_of word rest (command.Mend cpu) (begins word rest (command.Mend cpu) h) none (λ is. cc) h
 
 -- what was read behind a verb, or was not, is so of the verb's word
-pub by_verb : (taken : Bool) (name : List ℕ) (word : Verb) (rest : List (List ℕ)) (command : Command) → name ≡ name_of word
-    → MatchBool taken (Spells (name_of word ∷ rest) command) (SpellsNone word rest)
-    → MatchBool taken (Spells (name ∷ rest) command) ((any : Command) → Spells (name ∷ rest) any → ⊥)
-by_verb true name word rest command is h = subst (λ first. Spells (first ∷ rest) command) (sym is) h
-by_verb false name word rest command is h = λ any spelled. no_row word rest h any (subst (λ first. Spells (first ∷ rest) any) is spelled)
+pub by_verb : (taken : Option Sort) (name : List ℕ) (word : Verb) (rest : List (List ℕ)) (commands : Commands) → name ≡ name_of word
+    → MatchOption taken (SpellsNone word rest) (λ sort. Spells (name_of word ∷ rest) (command_at sort commands))
+    → MatchOption taken ((any : Command) → Spells (name ∷ rest) any → ⊥) (λ sort. Spells (name ∷ rest) (command_at sort commands))
+by_verb (Some sort) name word rest commands is h = subst (λ first. Spells (first ∷ rest) (command_at sort commands)) (sym is) h
+by_verb None name word rest commands is h = λ any spelled. no_row word rest h any (subst (λ first. Spells (first ∷ rest) any) is spelled)
 
 -- words are those of one row at most
 one_row : (spelled : List (List ℕ)) (one other : Command) → SpellsRow spelled one → SpellsRow spelled other → one ≡ other

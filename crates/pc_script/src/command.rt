@@ -21,16 +21,8 @@ pub enum Command {
     Mend { cpu: Cpu },
 }
 
-/// How a command is put into a place. Most stand where another of the same sort stood, and then only the event or the
-/// question is written: a whole command has room for a policy.
+/// How a command is put where another stood. Of one of the same sort only the event or the question is written over.
 impl Command {
-    #[inline(always)]
-    pub(crate) fn put_enclave(&mut self, limits: Limits)
-        ensures { self.new ≡ Command.Enclave limits }
-    {
-        *self = Command::Enclave(limits);
-    }
-
     #[inline(always)]
     pub(crate) fn put_event(&mut self, event: Event)
         ensures { self.new ≡ Command.Event event }
@@ -49,13 +41,6 @@ impl Command {
             Command::Read(place) => *place = read,
             _ => *self = Command::Read(read),
         }
-    }
-
-    #[inline(always)]
-    pub(crate) fn put_mend(&mut self, cpu: Cpu)
-        ensures { self.new ≡ Command.Mend cpu }
-    {
-        *self = Command::Mend { cpu };
     }
 }
 

@@ -1,9 +1,8 @@
 //! From a line to the command that its words spell.
 
 ghost use Rattle.std.specs.Prelude.{◌≡◌, ◌∷◌, List, IsTrue, ◌↔◌, MatchOption, None};
-ghost use Rattle.std.specs.Bool.{MatchBool};
 ghost use Rattle.pc_script.specs.Grammar.{Field, AreInRange, Spells, words_of};
-ghost use Rattle.pc_script.specs.Inner.Readings.{IsReading, kinds_of};
+ghost use Rattle.pc_script.specs.Inner.Readings.{IsReading, command_at, kinds_of};
 ghost use Rattle.pc_script.specs.Inner.Verbs.{SpellsNone, kinds, name_of};
 ghost use Rattle.pc_script.specs.Inner.Taking.{words_left};
 ghost use Rattle.pc_script.specs.declared.grammar.Verb.{Verb};
@@ -13,6 +12,7 @@ use crate::fields::{
     Arguments, Count, Failure, Index, Level, Mask, Processor, Processors, Queue, State, Target,
     Thread,
 };
+use crate::places::{Commands, Sort};
 use crate::policy::{policy_trouble, read_policy};
 use crate::trouble::{
     Trouble, Wanted, field_and_word, five_fields, last_field, three_fields, two_fields,
@@ -108,7 +108,7 @@ macro_rules! table {
     ($make:ident, $($given:expr),+) => {
         $make!($($given),+;
             Enclave(Processors(cpus), Count(threads), Count(numbers), Count(room), Count(posts)) =>
-                put_enclave(Limits { cpus, threads, numbers, room, posts }),
+                put_other(Command::Enclave(Limits { cpus, threads, numbers, room, posts })),
             Create(Queue(queue), Mask(mask), State(ready)) =>
                 put_event(Event::Env(EnvCall::Create { queue, mask, ready })),
             Wake(Thread(thread)) => put_event(Event::Env(EnvCall::Wake { thread })),
@@ -134,28 +134,28 @@ macro_rules! table {
             Pick(Processor(cpu), Count(aseq)) => put_event(Event::Pick { cpu, aseq }),
             Steal(Processor(cpu)) => put_event(Event::Steal { cpu }),
             Crash(Processor(cpu)) => put_event(Event::Crash { cpu }),
-            Status(Thread(thread)) => put_read(Read::Status { thread }),
+            Status(Thread(thread)) => put_status(thread),
             Asleep(Processor(cpu)) => put_read(Read::Asleep { cpu }),
             Show(Processor(cpu)) => put_read(Read::Show { cpu }),
             Same(Processor(cpu), Processor(other)) => put_read(Read::Same { cpu, other }),
             Complete(Processor(cpu), Thread(thread)) => put_read(Read::Complete { cpu, thread }),
-            Mend(Processor(cpu)) => put_mend(cpu)
+            Mend(Processor(cpu)) => put_other(Command::Mend { cpu })
         )
     };
 }
 
-/// Puts the command of a verb, whose fields are the words that are left, into a place. Answers whether there is one.
+/// Puts the command of a verb, whose fields are the words that are left, into its place, and answers which that is.
 macro_rules! read {
-    ($verb:expr, $words:expr, $place:expr; $($name:ident($($fields:tt)+) => $put:ident($($made:tt)+)),+) => {
+    ($verb:expr, $words:expr, $commands:expr; $($name:ident($($fields:tt)+) => $put:ident($($made:tt)+)),+) => {
         match $verb {
             $(Verb::$name => match Arguments::read($words) {
-                Some(pairs!($($fields)+)) => {
-                    $place.$put($($made)+);
-                    true
-                }
-                None => false,
+                Some(pairs!($($fields)+)) => Some($commands.$put($($made)+)),
+                None => None,
             })+
-            Verb::Policy => read_policy($words, $place),
+            Verb::Policy => match read_policy($words, &mut $commands.other) {
+                true => Some(Sort::Other),
+                false => None,
+            },
         }
     };
 }
@@ -190,28 +190,33 @@ macro_rules! troubles {
     };
 }
 
-/// Puts the command of this verb whose fields are the words that are left into the place. Answers whether there is one.
+/// Puts the command of this verb whose fields are the words that are left into its place, and answers which that is;
+/// none, where there is no such command.
 ///
-/// The place is the caller's, and stays where it is: a command that were handed on as a value would be put together
+/// The places are the caller's, and stay where they are: a command that were handed on as a value would be put together
 /// from the fields of all commands at once, wherever the kinds of commands meet.
 #[inline(always)]
-fn read_as(verb: Verb, words: &mut Words<'_>, place: &mut Command) -> bool
-    ensures { MatchBool result (Spells (name_of verb ∷ words_left words.old) place.new)
-        (SpellsNone verb (words_left words.old)) }
+fn read_as(verb: Verb, words: &mut Words<'_>, commands: &mut Commands) -> Option<Sort>
+    ensures { MatchOption result (SpellsNone verb (words_left words.old))
+        (λ sort. Spells (name_of verb ∷ words_left words.old) (command_at sort commands.new)) }
 {
-    table!(read, verb, words, place)
+    table!(read, verb, words, commands)
 }
 
-/// Puts the command that a line with this first word spells, and with the words that are left after it, into the place.
-/// Answers whether there is one.
+/// Puts the command that a line with this first word spells, and with the words that are left after it, into its place,
+/// and answers which that is; none, where there is no such command.
 #[inline(always)]
-pub(crate) fn read_command(name: &[u8], words: &mut Words<'_>, place: &mut Command) -> bool
-    ensures { MatchBool result (Spells (name.now ∷ words_left words.old) place.new)
-        (IsReading (name.now ∷ words_left words.old) None) }
+pub(crate) fn read_command(
+    name: &[u8],
+    words: &mut Words<'_>,
+    commands: &mut Commands,
+) -> Option<Sort>
+    ensures { MatchOption result (IsReading (name.now ∷ words_left words.old) None)
+        (λ sort. Spells (name.now ∷ words_left words.old) (command_at sort commands.new)) }
 {
     match verb_of(name) {
-        Some(verb) => read_as(verb, words, place),
-        None => false,
+        Some(verb) => read_as(verb, words, commands),
+        None => None,
     }
 }
 

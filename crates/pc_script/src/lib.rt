@@ -27,6 +27,7 @@ mod observer;
 mod outcome;
 mod output;
 mod piece;
+mod places;
 mod policy;
 mod response;
 mod run;

@@ -5,9 +5,9 @@ ghost use Rattle.pc_script.specs.Inner.Readings.{wish_of};
 
 use crate::command::Command;
 use crate::grammar::read_command;
+use crate::places::{Commands, Sort};
 use crate::version::Version;
 use crate::words::Words;
-use pc_messages::Cpu;
 
 /// What a line asks for.
 #[derive(Clone, Copy, Debug, PartialEq, Eq)]
@@ -20,21 +20,18 @@ pub enum Wish {
     Stop,
 }
 
-/// What a line asks for, where a command stands in a place of its own.
+/// What a line asks for, where commands stand in places of their own.
 #[derive(Clone, Copy)]
 pub(crate) enum Asks {
     Nothing,
-    ForCommand,
+    For(Sort),
     ForStop,
 }
 
-/// What a place holds before a command is put into it.
-pub(crate) const NO_COMMAND: Command = Command::Mend { cpu: Cpu(0) };
-
-/// Puts the command for which this line asks in a script of the version into the place, and answers what it asks for.
+/// Puts the command for which this line asks in a script of the version into its place, and answers what it asks for.
 #[inline(always)]
-pub(crate) fn read_line(version: Version, line: &[u8], place: &mut Command) -> Asks
-    ensures { IsAsked version line.now (wish_of result place.new) }
+pub(crate) fn read_line(version: Version, line: &[u8], commands: &mut Commands) -> Asks
+    ensures { IsAsked version line.now (wish_of result commands.new) }
 {
     if line.first().copied() == Some(b'#') {
         return Asks::Nothing;
@@ -43,10 +40,9 @@ pub(crate) fn read_line(version: Version, line: &[u8], place: &mut Command) -> A
     let Some(name) = words.next() else {
         return Asks::Nothing;
     };
-    if read_command(name, &mut words, place) && version.has(place) {
-        Asks::ForCommand
-    } else {
-        Asks::ForStop
+    match read_command(name, &mut words, commands) {
+        Some(sort) if version.has(commands.at(sort)) => Asks::For(sort),
+        _ => Asks::ForStop,
     }
 }
 
@@ -55,10 +51,10 @@ pub(crate) fn read_line(version: Version, line: &[u8], place: &mut Command) -> A
 pub fn asked(version: Version, line: &[u8]) -> Wish
     ensures { IsAsked version line.now result }
 {
-    let mut command = NO_COMMAND;
-    match read_line(version, line, &mut command) {
+    let mut commands = Commands::new();
+    match read_line(version, line, &mut commands) {
         Asks::Nothing => Wish::Nothing,
-        Asks::ForCommand => Wish::Answer(command),
+        Asks::For(sort) => Wish::Answer(*commands.at(sort)),
         Asks::ForStop => Wish::Stop,
     }
 }

@@ -67,13 +67,11 @@ pub(crate) fn read_policy(words: &mut Words<'_>, place: &mut Command) -> bool
     }
 }
 
-/// The first trouble with the words behind `policy`: with a word, or within the expression.
+/// The first trouble with the words behind `policy`: within the expression where the first is `rank`, or with a word.
 pub(crate) fn policy_trouble<'a>(words: &mut Words<'a>) -> Option<Trouble<'a>> {
-    if let Err(OrderFault::Rank(fault)) = policy_left(&mut words.again()) {
-        return Some(Trouble::Rank { fault });
-    }
     let verb = Verb::Policy;
     let wanted = Wanted::Order;
+    let policy = policy_left(&mut words.again());
     let Some(word) = words.next() else {
         return Some(Trouble::Missing {
             verb,
@@ -81,6 +79,9 @@ pub(crate) fn policy_trouble<'a>(words: &mut Words<'a>) -> Option<Trouble<'a>> {
             wanted,
         });
     };
+    if let (b"rank", Err(OrderFault::Rank(fault))) = (word, policy) {
+        return Some(Trouble::Rank { fault });
+    }
     match OrderName::named(word) {
         Some(_) => trouble_with_last(verb, words, 3, b"exact", Wanted::Exactness),
         None => Some(Trouble::Wrong {

@@ -26,6 +26,7 @@ use crate::observer::{Line, Observer};
 use crate::outcome::ScriptFault;
 use crate::output::Output;
 use crate::piece::Piece;
+use crate::places::Places;
 use crate::run::Replies;
 use crate::walker::Walker;
 use std::alloc::Global;
@@ -64,6 +65,7 @@ fn asks_for_help(line: &[u8]) -> bool
 #[derive(Drop)]
 struct Talk<M: Machine> {
     walk: Walker<M>,
+    places: Places,
     /// How many lines there were.
     number: u64,
     had_fault: bool,
@@ -82,6 +84,7 @@ impl<M: Machine> Talk<M> {
     {
         Talk {
             walk: Walker::new(alloc),
+            places: Places::new(),
             number: 0,
             had_fault: false,
             passes: false,
@@ -171,7 +174,7 @@ impl<M: Machine> Talk<M> {
             return Ok(());
         }
         let line = Line { number, text };
-        if !self.walk.take(line, observer, writer)? {
+        if !self.walk.take(&mut self.places, line, observer, writer)? {
             self.note_fault(text, helper);
         }
         Ok(())

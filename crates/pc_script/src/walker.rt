@@ -15,11 +15,12 @@ ghost use Rattle.pc_script.specs.declared.version.Version.{Version};
 
 use crate::command::Command;
 use crate::input::MOST_BYTES;
-use crate::line::{Asks, NO_COMMAND, read_line};
+use crate::line::{Asks, read_line};
 use crate::lines::lines_of;
 use crate::machine::Machine;
 use crate::observer::{Line, Observer};
 use crate::outcome::{Outcome, ScriptFault};
+use crate::places::{Places, Sort};
 use crate::response::Response;
 use crate::version::{Version, named_version};
 use pc_calls::Profile;
@@ -37,9 +38,6 @@ pub(crate) struct Walker<M: Machine> {
     pub(crate) is_open: bool,
     /// The version that a line named, and the first before.
     pub(crate) version: Version,
-    /// Each command and each response stand where those before them stood.
-    command: Command,
-    response: Response,
 }
 
 impl<M: Machine> Walker<M> {
@@ -54,21 +52,22 @@ impl<M: Machine> Walker<M> {
             machine: M::start(alloc, Profile::One),
             is_open: false,
             version: Version::One,
-            command: NO_COMMAND,
-            response: Response::Opened,
         }
     }
 
-    /// Has the machine take the command of a line, which stands in its place, and tells the observer of it.
+    /// Has the machine take the command of a line, puts what it is answered in the place of the response, and tells the
+    /// observer of it.
     #[inline(always)]
     fn answer<O: Observer<M, W>, W: Write>(
         &mut self,
         line: Line<'_>,
+        command: &Command,
+        response: &mut Response,
         observer: &mut O,
         writer: &mut W,
     ) -> Result<(), ScriptFault>
         requires replies { HasNoReply line.text.now → ⊥ }
-        requires asked { AsksFor self.old.version (words line.text.now) self.old.command }
+        requires asked { AsksFor self.old.version (words line.text.now) command.now }
         ensures ok { OnOk result (Takes M.StandsAfter O.Tells line.entry.text.now
             (stand self.old.machine self.old.is_open self.old.version observer.old (W.contents writer.old))
             (stand self.new.machine self.new.is_open self.new.version observer.new (W.contents writer.new))) }
@@ -78,19 +77,34 @@ impl<M: Machine> Walker<M> {
             (stand self.new.machine self.new.is_open self.new.version observer.new (W.contents writer.new))) }
     {
         self.is_open = true;
-        observer.expect(&self.command, &self.machine);
-        match self.machine.answer(&self.command, &mut self.response) {
-            Ok(()) => {
-                observer.answered(
-                    line,
-                    &self.command,
-                    &mut self.response,
-                    &self.machine,
-                    writer,
-                )
-            }
+        observer.expect(command, &self.machine);
+        match self.machine.answer(command, response) {
+            Ok(()) => observer.answered(line, command, response, &self.machine, writer),
             Err(_) => Err(ScriptFault::OutOfMemory),
         }
+    }
+
+    /// The same, apart from where most commands are answered.
+    #[inline(never)]
+    fn answer_apart<O: Observer<M, W>, W: Write>(
+        &mut self,
+        line: Line<'_>,
+        command: &Command,
+        response: &mut Response,
+        observer: &mut O,
+        writer: &mut W,
+    ) -> Result<(), ScriptFault>
+        requires replies { HasNoReply line.text.now → ⊥ }
+        requires asked { AsksFor self.old.version (words line.text.now) command.now }
+        ensures ok { OnOk result (Takes M.StandsAfter O.Tells line.entry.text.now
+            (stand self.old.machine self.old.is_open self.old.version observer.old (W.contents writer.old))
+            (stand self.new.machine self.new.is_open self.new.version observer.new (W.contents writer.new))) }
+        ensures err { (fault : ScriptFault) → result ≡ Err fault → O.MayFail fault
+            ⊎ ((fault ≡ ScriptFault.OutOfMemory) × FindsNone M.StandsAfter M.RanOut O.Tells line.entry.text.now
+            (stand self.old.machine self.old.is_open self.old.version observer.old (W.contents writer.old))
+            (stand self.new.machine self.new.is_open self.new.version observer.new (W.contents writer.new))) }
+    {
+        self.answer(line, command, response, observer, writer)
     }
 
     /// Takes a line that asks for no command: the first that has a reply may name the version, and every other is a
@@ -125,10 +139,11 @@ impl<M: Machine> Walker<M> {
         Ok(false)
     }
 
-    /// Takes the next line. Answers false where it is a fault.
+    /// Takes the next line, whose command stands in one of the places. Answers false where it is a fault.
     #[inline(always)]
     pub(crate) fn take<O: Observer<M, W>, W: Write>(
         &mut self,
+        places: &mut Places,
         line: Line<'_>,
         observer: &mut O,
         writer: &mut W,
@@ -145,10 +160,25 @@ impl<M: Machine> Walker<M> {
             (stand self.old.machine self.old.is_open self.old.version observer.old (W.contents writer.old))
             (stand self.new.machine self.new.is_open self.new.version observer.new (W.contents writer.new))) }
     {
-        match read_line(self.version, line.text, &mut self.command) {
+        let Places {
+            commands,
+            responses,
+        } = places;
+        match read_line(self.version, line.text, commands) {
             Asks::Nothing => Ok(true),
-            Asks::ForCommand => {
-                self.answer(line, observer, writer)?;
+            Asks::For(Sort::Event) => {
+                let (command, response) = (&commands.event, &mut responses.event);
+                self.answer(line, command, response, observer, writer)?;
+                Ok(true)
+            }
+            Asks::For(Sort::Status) => {
+                let (command, response) = (&commands.status, &mut responses.status);
+                self.answer(line, command, response, observer, writer)?;
+                Ok(true)
+            }
+            Asks::For(Sort::Other) => {
+                let (command, response) = (&commands.other, &mut responses.other);
+                self.answer_apart(line, command, response, observer, writer)?;
                 Ok(true)
             }
             Asks::ForStop => self.stop(line, observer, writer),
@@ -176,11 +206,12 @@ pub fn walk<M: Machine, O: Observer<M, W>, W: Write>(
     ensures err { (fault : ScriptFault) → result ≡ Err fault → O.MayFail fault ⊎ (fault ≡ ScriptFault.OutOfMemory) }
 {
     let mut walk = Walker::<M>::new(alloc);
+    let mut places = Places::new();
     let mut number = 0;
     for text in lines_of(Some(text)) {
         number += 1;
         let line = Line { number, text };
-        if !walk.take(line, observer, writer)? {
+        if !walk.take(&mut places, line, observer, writer)? {
             return Ok(Outcome::FaultLine(number));
         }
     }

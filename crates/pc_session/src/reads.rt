@@ -32,12 +32,12 @@ pub fn answer_of(alloc: Global, world: &World, read: Read) -> Result<Response, A
     }
 }
 
-/// Puts the response that the thread is unknown into a place.
+/// Puts why a question has no answer into a place.
 #[inline(never)]
-fn put_unknown(response: &mut Response)
-    ensures { response.new ≡ Response.Refused Refusal.UnknownThread }
+fn put_refusal(refusal: Refusal, response: &mut Response)
+    ensures { response.new ≡ Response.Refused refusal }
 {
-    *response = Response::Refused(Refusal::UnknownThread);
+    *response = Response::Refused(refusal);
 }
 
 /// Puts a status word into the place of a response of any kind.
@@ -78,7 +78,7 @@ pub(crate) fn put_status(kernel: &Kernel, thread: Tid, response: &mut Response)
     kernel.is_sound();
     match (kernel.status(thread), kernel.state(thread)) {
         (Some(status), Some(state)) => put_word(state.phase, thread, status, response),
-        _ => put_unknown(response),
+        _ => put_refusal(Refusal::UnknownThread, response),
     }
 }
 
@@ -91,16 +91,44 @@ fn status(kernel: &Kernel, thread: Tid) -> Response
     told
 }
 
+/// Puts whether something is so into the place of a response of any kind.
+#[inline(never)]
+fn put_truth_anew(truth: bool, response: &mut Response)
+    ensures { response.new ≡ Response.Truth truth }
+{
+    *response = Response::Truth(truth);
+}
+
+/// Puts whether something is so into the place of a response. Most stand where another such stood.
+#[inline(always)]
+fn put_truth(truth: bool, response: &mut Response)
+    ensures { response.new ≡ Response.Truth truth }
+{
+    match response {
+        Response::Truth(place) => *place = truth,
+        _ => put_truth_anew(truth, response),
+    }
+}
+
+/// Puts whether the CPU's agent sleeps into the place of a response.
+pub(crate) fn put_asleep(world: &World, cpu: Cpu, response: &mut Response)
+    ensures { (w : PlainWorld) → ShowsWorld world.now w → IsAsleep w cpu response.new }
+{
+    let kernel = world.kernel();
+    if cpu.index() < kernel.cpus() {
+        put_truth(kernel.is_asleep(cpu), response);
+    } else {
+        put_refusal(Refusal::BadCpu, response);
+    }
+}
+
 /// Whether the CPU's agent sleeps.
 fn asleep(world: &World, cpu: Cpu) -> Response
     ensures { (w : PlainWorld) → ShowsWorld world.now w → IsAsleep w cpu result }
 {
-    let kernel = world.kernel();
-    if cpu.index() < kernel.cpus() {
-        Response::Truth(kernel.is_asleep(cpu))
-    } else {
-        Response::Refused(Refusal::BadCpu)
-    }
+    let mut told = Response::Opened;
+    put_asleep(world, cpu, &mut told);
+    told
 }
 
 /// What the agent knows.

@@ -13,7 +13,7 @@ ghost use Rattle.pc_world.specs.Steps.{Step};
 ghost use Rattle.pc_session.specs.Inner.Sessions.{Answers, IsReplied, Steps, is_session};
 ghost use Rattle.pc_session.specs.Standing.{LeadsToWorld, ShowsEnclave, StandsAfter, lent};
 
-use crate::reads::{answer_of, put_status};
+use crate::reads::{answer_of, put_asleep, put_status};
 use pc_calls::{Event, LimitsFault, Profile, Refusal, Reply};
 use pc_messages::Cpu;
 use pc_policy::{AgentPolicy, PolicyName};
@@ -179,7 +179,7 @@ fn tell_anew(
     Ok(())
 }
 
-/// Answers a question. Most are of status words.
+/// Answers a question. Most are of status words, and of agents that sleep.
 #[inline(never)]
 fn tell(alloc: Global, world: &World, read: Read, response: &mut Response) -> Result<(), AllocError>
     ensures ok { OnOk result ((w : PlainWorld) → ShowsWorld world.now w → IsRead w read response.new) }
@@ -189,6 +189,10 @@ fn tell(alloc: Global, world: &World, read: Read, response: &mut Response) -> Re
     match read {
         Read::Status { thread } => {
             put_status(world.kernel(), thread, response);
+            Ok(())
+        }
+        Read::Asleep { cpu } => {
+            put_asleep(world, cpu, response);
             Ok(())
         }
         _ => tell_anew(alloc, world, read, response),

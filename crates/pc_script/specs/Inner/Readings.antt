@@ -8,17 +8,26 @@ use Rattle.pc_script.specs.declared.line.Asks.{Asks}
 use Rattle.pc_script.specs.declared.line.Asks.TheVariants as asks
 use Rattle.pc_script.specs.declared.line.Wish.{Wish}
 use Rattle.pc_script.specs.declared.line.Wish.TheVariants as wish
+use Rattle.pc_script.specs.declared.places.Commands.{Commands}
+use Rattle.pc_script.specs.declared.places.Sort.{Sort}
+use Rattle.pc_script.specs.declared.places.Sort.TheVariants as sort
 
 -- a command was read exactly where the words spell one
 abbrev pub IsReading : List (List ℕ) → Option Command → Type 0
 IsReading spelled None = (command : Command) → Spells spelled command → ⊥
 IsReading spelled (Some command) = Spells spelled command
 
--- what a line asks for, where its command stands in a place of its own
-abbrev pub wish_of : Asks → Command → Wish
-wish_of asks.Nothing command = wish.Nothing
-wish_of asks.ForCommand command = wish.Answer command
-wish_of asks.ForStop command = wish.Stop
+-- the command of a sort, where each sort has a place of its own
+abbrev pub command_at : Sort → Commands → Command
+command_at sort.Event commands = commands.event
+command_at sort.Status commands = commands.status
+command_at sort.Other commands = commands.other
+
+-- what a line asks for, where its command stands in the place of its sort
+abbrev pub wish_of : Asks → Commands → Wish
+wish_of asks.Nothing commands = wish.Nothing
+wish_of (asks.For sort) commands = wish.Answer (command_at sort commands)
+wish_of asks.ForStop commands = wish.Stop
 
 -- What a field says, whatever its value
 pub data Kind : Type 0 where

@@ -6,4 +6,4 @@ pub returns-in-None : goal.returns-in-None
 returns-in-None c = λ command spelled. no_verb _ _ c.in-None.ensures command spelled
 
 pub returns-in-Some : goal.returns-in-Some
-returns-in-Some c = by_verb _ c.args.name.now c.in-Some.verb (words_left c.args.words.now) _ c.in-Some.ensures c.read_as.ensures
+returns-in-Some c = by_verb c.read_as.result c.args.name.now c.in-Some.verb (words_left c.args.words.now) c.read_as.new.commands c.in-Some.ensures c.read_as.ensures

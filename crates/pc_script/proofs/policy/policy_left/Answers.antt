@@ -1,4 +1,4 @@
-use Rattle.std.proofs.Common.{◌≡◌, arith}
+use Rattle.std.proofs.Common.{arith}
 use Rattle.pc_policy.proofs.Policies.{policy_short}
 use Rattle.pc_script.specs.Grammar.{spaced}
 use Rattle.pc_script.specs.Inner.Taking.{words_left}

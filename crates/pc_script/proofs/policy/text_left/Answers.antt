@@ -1,7 +1,6 @@
-use Rattle.std.proofs.Common.{rules, ◌≡◌, ◌∷◌, [], ◌++◌, ◌<◌, ◌≤◌, ◌+◌, length, ap, ◌∙◌, arith}
+use Rattle.std.proofs.Common.{rules, ◌≡◌, ◌∷◌, [], ◌++◌, ◌≤◌, ◌+◌, length, ap, ◌∙◌, arith}
 use Rattle.std.proofs.lemmas.List.{length-append}
 use Rattle.pc_script.proofs.Joining.{first_put, next_put, longer_next}
-use Rattle.pc_script.specs.Inner.Taking.{words_left}
 use Rattle.pc_script.proofs.policy.text_left.Goals as goal
 
 pub loop-word-init : goal.loop-word-init

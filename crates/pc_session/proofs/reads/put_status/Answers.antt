@@ -14,4 +14,4 @@ returns-in_default c =
       | in_default-via-in-Some+in_default w ↦ unreported_status c.args.kernel.now c.args.thread c.is_sound.ensures (sym c.state.ensures ∙ ap option_copied w.in_default.is-1)
       | in_default-via-in_default w ↦ unknown_status c.args.kernel.now c.args.thread c.is_sound.ensures (sym c.status.ensures ∙ w.in_default.is-0)
     ] in
-    subst (IsStatus c.args.thread ((seen c.args.kernel.now).thread c.args.thread)) (sym c.put_unknown.ensures) unknown
+    subst (IsStatus c.args.thread ((seen c.args.kernel.now).thread c.args.thread)) (sym c.put_refusal.ensures) unknown
