@@ -239,10 +239,12 @@ def test_drawn_loads() -> None:
         runs = runs_of(load, variants)
         with rig.file(variants or "") as file:
             words = ["--variants", file] if variants else []
-            stall = stall_of(runs, file if variants else None)
+            where = file if variants else None
+            stall = stall_of(runs, where)
             for flags, wanted in (((), table_of(runs)), (("--per-cpu",), table_of(runs, True)), (("--per-cpu", "--csv"), csv_of(runs, True))):
                 same(outcome(lab("-", *words, *flags, given=load)), (0, wanted, stall), load)
-            same(told(load, *words, "--script", "v0"), script_of(runs[0]), load)
+            script = outcome(lab("-", *words, "--script", "v0", given=load))
+            same(script, (0, script_of(runs[0]), stall_of(runs[:1], where)), load)
 
 
 def test_the_program_answers_as_runs_expect() -> None:

@@ -31,7 +31,7 @@ fn column_of<'a>(
 }
 
 /// Tells a watcher of the run under the variant with this place, if it stalled.
-fn tell_stall<W: Watcher>(watcher: &mut W, variant: usize, ending: &RunEnding) {
+pub(crate) fn tell_stall<W: Watcher>(watcher: &mut W, variant: usize, ending: &RunEnding) {
     match ending {
         RunEnding::Stalled(thread) => watcher.stalled(variant, *thread),
         RunEnding::Done | RunEnding::Until | RunEnding::NumbersSpent => {}

@@ -25,7 +25,7 @@ pub use output::LabOutput;
 pub use pc_settings::Unread;
 pub use pc_table::{Form, Layout};
 pub use progress::{Progress, Stall};
-pub use script::script_of;
+pub use script::{script_of, script_watched};
 pub use stages::MOST_LOAD;
 pub use tried::{try_load, try_variants};
 pub use watcher::{SoFar, Watcher};

@@ -5,7 +5,9 @@ ghost use Rattle.std.specs.Prelude.{position};
 ghost use Rattle.std.specs.List.{Contains, list_any};
 ghost use Rattle.pc_trial.specs.Comparing.{IsScript, IsScriptOf, is_named};
 
+use crate::comparison::tell_stall;
 use crate::fault::{CompareFault, fault_of};
+use crate::watcher::{Nobody, Watcher};
 use pc_lab::{Chronicle, LabFault, head_of, play};
 use pc_load::{Load, Variant, Variants};
 use pc_script::MOST_BYTES;
@@ -33,13 +35,20 @@ fn text_of(chronicle: Chronicle) -> Result<Vec<u8>, LabFault>
     }
 }
 
-/// The script of a run of the load under the variant.
-fn script_under(alloc: Global, load: &Load, variant: &Variant) -> Result<Vec<u8>, LabFault>
+/// The script of a run of the load under the variant, which has this place. The watcher is told if the run stalled.
+fn script_under<W: Watcher>(
+    alloc: Global,
+    load: &Load,
+    place: usize,
+    variant: &Variant,
+    watcher: &mut W,
+) -> Result<Vec<u8>, LabFault>
     ensures told { IfOk result (λ text. IsScript load.now variant.now text.items) }
     ensures short { IfOk result (λ text. length text.items ≤ 16777216) }
 {
     let head = head_of(alloc, load, variant)?;
     let played = play(alloc, load, variant, Chronicle::Script(head))?;
+    tell_stall(watcher, place, &played.summary.ending);
     let text = text_of(played.chronicle)?;
     within_room(text)
 }
@@ -58,13 +67,13 @@ fn place_of(variants: &[Variant], name: &[u8]) -> Option<usize>
     variants.iter().position(|variant| is_named(variant, name))
 }
 
-/// The variant of this name.
-fn find<'a>(variants: &'a [Variant], name: &[u8]) -> Option<&'a Variant>
+/// The variant of this name, and its place.
+fn find<'a>(variants: &'a [Variant], name: &[u8]) -> Option<(usize, &'a Variant)>
     ensures { MatchOption result (list_any (λ variant. bytes_eq variant.name.items name.now) variants.now ≡ false)
-        (λ found. Contains variants.now found.now × (bytes_eq found.now.name.items name.now ≡ true)) }
+        (λ found. Contains variants.now found.1.now × (bytes_eq found.1.now.name.items name.now ≡ true)) }
 {
     match place_of(variants, name) {
-        Some(place) => Some(&variants[place]),
+        Some(place) => Some((place, &variants[place])),
         None => None,
     }
 }
@@ -84,9 +93,27 @@ pub fn script_of(
     ensures short { IfOk result (λ text. length text.items ≤ 16777216) }
     ensures named { (result ≡ Err CompareFault.NoVariant) ↔ (list_any (is_named name.now) variants.now ≡ false) }
 {
+    script_watched(alloc, load, variants, name, &mut Nobody)
+}
+
+/// Does what [`script_of`] does. The watcher is told if the run stalled.
+///
+/// # Errors
+/// Those of [`script_of`].
+pub fn script_watched<W: Watcher>(
+    alloc: Global,
+    load: &Load,
+    variants: &Variants,
+    name: &str,
+    watcher: &mut W,
+) -> Result<Vec<u8>, CompareFault>
+    ensures told { IfOk result (λ text. IsScriptOf load.now variants.now name.now text.items) }
+    ensures short { IfOk result (λ text. length text.items ≤ 16777216) }
+    ensures named { (result ≡ Err CompareFault.NoVariant) ↔ (list_any (is_named name.now) variants.now ≡ false) }
+{
     let variants = variants.as_slice();
     match find(variants, name.as_bytes()) {
-        Some(variant) => match script_under(alloc, load, variant) {
+        Some((place, variant)) => match script_under(alloc, load, place, variant, watcher) {
             Ok(text) => Ok(text),
             Err(fault) => Err(fault_of(fault)),
         },

@@ -11,7 +11,7 @@ use crate::comparison::{compare_watched, picture_watched};
 use crate::ending::LabEnding;
 use crate::fault::CompareFault;
 use crate::output::LabOutput;
-use crate::script::script_of;
+use crate::script::script_watched;
 use crate::watcher::Watcher;
 use pc_load::{Load, Variants};
 use pc_settings::{
@@ -151,16 +151,17 @@ fn picture_drawn<W: Watcher>(
 }
 
 /// The script of the variant of this name.
-fn script_named(
+fn script_named<W: Watcher>(
     alloc: Global,
     load: &Load,
     variants: &Variants,
     name: &String,
+    watcher: &mut W,
 ) -> Result<Vec<u8>, LabEnding>
     ensures ok { IfOk result (λ text. IsTold (LabOutput.Script name.now) load.now variants.now text.items) }
     ensures err { IfErr result (EndsAtTelling (LabOutput.Script name.now) variants.now) }
 {
-    match script_of(alloc, load, variants, name.as_str()) {
+    match script_watched(alloc, load, variants, name.as_str(), watcher) {
         Ok(text) => Ok(text),
         Err(CompareFault::NoVariant) => Err(LabEnding::NoVariant),
         Err(CompareFault::ScriptTooLong) => Err(LabEnding::ScriptTooLong),
@@ -169,7 +170,7 @@ fn script_named(
     }
 }
 
-/// The whole text that is wanted. Where a run of each variant is, the watcher is told of these.
+/// The whole text that is wanted. The watcher is told of the runs: of a script's, if it stalled.
 pub(crate) fn told<W: Watcher>(
     alloc: Global,
     load: &Load,
@@ -183,7 +184,7 @@ pub(crate) fn told<W: Watcher>(
     match wanted {
         LabOutput::Table(form) => table_of(alloc, load, variants, *form, watcher),
         LabOutput::Picture => picture_drawn(alloc, load, variants, watcher),
-        LabOutput::Script(name) => script_named(alloc, load, variants, name),
+        LabOutput::Script(name) => script_named(alloc, load, variants, name, watcher),
     }
 }
 
