@@ -75,8 +75,9 @@ fn write_numbers<W: Write>(text: &str, writer: &mut W) -> io::Result<()> {
     Ok(())
 }
 
-/// Whether the words of a policy stand there as several.
+/// Whether the words of a policy stand behind `--policy` as several.
 fn splits_a_policy<S: AsStr>(words: &[S]) -> bool {
+    let mut is_policy = false;
     let mut is_order = false;
     let mut is_rank = false;
     for word in words {
@@ -84,8 +85,13 @@ fn splits_a_policy<S: AsStr>(words: &[S]) -> bool {
         if is_rank || (is_order && word == "exact") {
             return true;
         }
-        is_rank = word == "rank";
-        is_order = OrderName::named(word.as_bytes()).is_some();
+        let order = match word.strip_prefix("--policy=") {
+            None if is_policy => word,
+            given => given.unwrap_or(""),
+        };
+        is_rank = order == "rank";
+        is_order = OrderName::named(order.as_bytes()).is_some();
+        is_policy = word == "--policy";
     }
     false
 }
