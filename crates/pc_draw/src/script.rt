@@ -80,7 +80,8 @@ pub fn draw_script<R: Read, W: Write>(
 }
 
 /// Writes the picture of this part of what was recorded of a text, along this axis. All memory is taken before the
-/// first byte is written.
+/// first byte is written. It stands apart from the walk over the script, so that the two use the same stack.
+#[inline(never)]
 fn draw_recorded<W: Write>(
     alloc: Global,
     text: &[u8],

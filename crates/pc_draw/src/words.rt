@@ -102,7 +102,8 @@ pub(crate) struct Title {
 }
 
 impl Title {
-    /// Of this summary.
+    /// Of this summary. It stands apart, so that what writes the picture has no room for a policy on its stack.
+    #[inline(never)]
     pub(crate) fn of(alloc: Global, summary: &Summary) -> Result<Title, AllocError>
         ensures { IfOk result (λ made. made.title.items ≡ xml_text
             (script_title summary.now.commands summary.now.refused summary.now.policy summary.now.outcome)) }
