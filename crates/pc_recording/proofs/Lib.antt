@@ -1,0 +1,3 @@
+pub mod KeptEntries
+pub mod Pieces
+pub mod TimedEvents
