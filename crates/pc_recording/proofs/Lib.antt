@@ -1,3 +1,0 @@
-pub mod KeptEntries
-pub mod Pieces
-pub mod TimedEvents

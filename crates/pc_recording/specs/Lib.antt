@@ -1,6 +1,0 @@
--- A recording is kept in entries of four words: `Entries` says which entry holds which event, `Logs` which events a list
--- of entries holds, with their times, and `Shown` which of them are shown. What a read takes of the text is in `Pieces`.
-pub mod Entries
-pub mod Logs
-pub mod Pieces
-pub mod Shown
