@@ -1,12 +1,14 @@
 #!/usr/bin/env python3
-"""Tests tools/from-perf-sched: on the short texts of tests/recordings.txt, most of whose commands were worked out by hand, on others
-that are written here, and on the recordings of examples/recordings. It also tests what of tools/record-loads needs no perf.
+"""Tests `pc-sim import`: on the short texts of tests/recordings.txt, most of whose commands were worked out by hand, on others that are
+written here, and on the recordings of examples/recordings. It also tests what of tools/record-loads needs no perf.
 
-Every script that is made is also replayed, and every settings text is run: no line may be a fault, and the refusals have to be those that the
-tool told.
+Every script that is made is also replayed, and every settings text is run: no line may be a fault, and the refusals have to be those that
+were told.
 """
 import functools
 import importlib.machinery
+import itertools
+import os
 import pathlib
 import re
 import shutil
@@ -16,6 +18,7 @@ import time
 import tomllib
 import types
 from collections import Counter
+from collections.abc import Callable
 from typing import Any, NamedTuple
 
 import rig
@@ -24,9 +27,12 @@ from reference.lab import FEW, runs_of, rows_of, variants_of
 from rig import ROOT, good, near, outcome, run, same
 from tables import table, variant
 
-TOOL = ROOT / "tools/from-perf-sched"
 RECORD = ROOT / "tools/record-loads"
 KEPT = ROOT / "examples/recordings"
+# What may be made of a recording, each by an option of its own.
+TEXTS = ("script", "load", "settings", "waits")
+BAD, UNREAD = "pc-sim: bad command line\n", "pc-sim: cannot read\n"
+MORE = "; pc-sim import --help tells more"
 
 
 def head(us: int, cpu: int, pid: int, event: str) -> str:
@@ -57,7 +63,7 @@ def text_of(lines: list[str]) -> str:
 
 
 class Made(NamedTuple):
-    """What the tool made of a text: the status, and the lines of the script, of what was told, and of the settings."""
+    """What was made of a text: the status, and the lines of the script, of what was told, and of the settings."""
 
     status: int
     script: list[str]
@@ -71,7 +77,7 @@ class Made(NamedTuple):
 
     @property
     def refused(self) -> Counter[str]:
-        """How often each refusal is to be answered, as the tool told."""
+        """How often each refusal is to be answered, as was told."""
         found = re.findall(r"^to be refused: (\d+) (\w+ \w+)$", "\n".join(self.told), re.M)
         return Counter({what: int(count) for count, what in found})
 
@@ -82,12 +88,16 @@ def refusals(script: str, replies: str) -> Counter[str]:
     return Counter(f"{words[0]} {answer.split()[1]}" for _, words, answer in asked if answer.startswith("refused "))
 
 
+def ask(*words: object, **more: Any) -> subprocess.CompletedProcess[str]:
+    return rig.ask("import", *words, **more)
+
+
 def make(text: str | bytes, *words: str, status: int = 0) -> Made:
-    """Gives the text to the tool, and what that makes of it to the program."""
+    """Gives the text to the program, and what that makes of it again."""
     with rig.file("", "settings.toml") as settings:
         data = text if isinstance(text, bytes) else text.encode()
-        ended = run(TOOL, "-", "--settings", settings, *words, given=data, text=False)
-        told = [it.removeprefix("from-perf-sched: ") for it in ended.stderr.decode().splitlines()]
+        ended = ask("-", "--script", "-", "--settings", settings, *words, given=data, text=False)
+        told = [it.removeprefix("pc-sim: ") for it in ended.stderr.decode("ascii").splitlines()]
         script, made_settings = ended.stdout.decode("ascii").splitlines(), settings.read_text().splitlines()
         made = Made(ended.returncode, script, told, made_settings)
     same(ended.returncode, status, told)
@@ -98,7 +108,7 @@ def make(text: str | bytes, *words: str, status: int = 0) -> Made:
 
 
 def replay(made: Made) -> str:
-    """No line is a fault, and what the model refuses is what the tool told."""
+    """No line is a fault, and what is refused is what was told."""
     script = text_of(made.script)
     replies: str = good(rig.ask("replay", given=script))
     assert "fault line" not in replies
@@ -150,13 +160,20 @@ def test_more_threads_than_a_first_version_has() -> None:
 
 
 def test_a_script_of_the_greatest_length() -> None:
-    tool = load_tool()
-    tool.LONGEST_SCRIPT = tool.LONGEST_EVENT + 120
-    recording = tool.read_recording(iter([wake(10, 0, 7, pid, 0) for pid in range(100, 110)]), None)
-    translator = tool.Translator(recording, tool.facts_of(recording.events), 1, False)
-    translator.translate()
-    same(translator.left_out, Counter({"events past the greatest length of a script": 8}))
-    same(translator.model.lines[-1], "wake t2")
+    """It ends where the commands of one more event might be past that; the load goes on."""
+    turns = 420_000
+    text = "".join(switch(us, 0, 100 + us % 8, "R", 100 + (us + 1) % 8) for us in range(turns))
+    with rig.file(text) as file:
+        script, load = (file.with_name(name) for name in ("script", "load"))
+        ended = ask(file, "--script", script, "--load", load)
+        same(ended.returncode, 0, ended.stderr)
+        made, steps = script.read_text(), re.findall(r"^steps = (.*)", load.read_text(), re.M)
+    assert 16_777_216 - 8_192 - 100 < len(made) <= 16_777_216, len(made)
+    written = made.count("\nyield ")
+    assert f"left out: {turns - written} events past the greatest length of a script\n" in ended.stderr, ended.stderr
+    same((len(steps), sum(it.count('"') // 2 for it in steps)), (8, turns + 1))
+    replies = good(rig.ask("replay", given=made))
+    same((replies.count("fault line"), replies.count("refused")), (0, 0))
 
 
 def test_carriage_returns() -> None:
@@ -165,13 +182,100 @@ def test_carriage_returns() -> None:
 
 
 def test_names_in_bytes_that_are_no_text() -> None:
-    assert "# t1 is Web C?ntent, 8" in make(switch(10, 0, 7, "S", 8).replace("p8", "Web Cöntent").encode("latin-1")).script
+    """There is a question mark for each byte that is no plain sign."""
+    for name, wanted in {
+        b"Web C\xf6ntent": "Web C?ntent", b"\xff\xfe\x80": "???", "\u6f22".encode(): "???", b"a\x1b[2J\x7f": "a?[2J?", b"a\0b": "a?b",
+    }.items():
+        text = switch(10, 0, 7, "S", 8).encode().replace(b"p8", name)
+        assert f"# t1 is {wanted}, 8" in make(text).script, name
+        assert f"# t1 is {wanted}, 8" in make(text).settings, name
+        told = make(name + b"\n" + text, status=1).told
+        same(told, [f"the standard input: line 1 is no event of a recording: {wanted}"])
+
+
+def test_kinds_of_events_that_are_no_text() -> None:
+    made = make(head(10, 0, 7, "f\x1b[2Joo: x").encode() + head(10, 0, 7, "b\xf6: x").encode("latin-1"))
+    same([it for it in made.told if "kind" in it], ["left out: 1 events of the kind b?", "left out: 1 events of the kind f?[2Joo"])
+
+
+# The frames of a line: perf's, that of the kernel's own tracing file, and that of trace-cmd.
+
+PERF_LINE = re.compile(r" *(\S.*?) +(-?\d+) \[(\d+)\] +(\d+\.\d+): +(?:sched:)?(\w+): (.*)")
+FULL_SWITCH = re.compile(r"prev_comm=(.*) prev_pid=(\d+) prev_prio=(\d+) prev_state=(\S+) ==> next_comm=(.*) next_pid=(\d+) next_prio=(\d+)")
+FULL_WAKING = re.compile(r"comm=(.*) pid=(\d+) prio=(\d+) target_cpu=(\d+)")
+
+
+def in_short(text: str) -> str:
+    """An event as trace-cmd writes it, where it has a form of its own for it."""
+    return FULL_WAKING.sub(r"\1:\2 [\3] CPU:\4", FULL_SWITCH.sub(r"\1:\2 [\3] \4 ==> \5:\6 [\7]", text))
+
+
+def tracing_line(comm: str, pid: str, cpu: str, at: str, name: str, told: str) -> str:
+    return f"{comm:>16}-{pid:7} [{cpu}] d..2. {at}: {name}: {told}\n"
+
+
+def with_process(comm: str, pid: str, cpu: str, at: str, name: str, told: str) -> str:
+    return f"{comm:>16}-{pid:7} ({pid:>7}) [{cpu}] dNh4. {at}: {name}: {told}\n"
+
+
+def trace_cmd_line(comm: str, pid: str, cpu: str, at: str, name: str, told: str) -> str:
+    return f"{comm:>16}-{pid:6} [{cpu}] {at}: {name + ':':21} {in_short(told)}\n"
+
+
+FRAMES: dict[str, tuple[str, Callable[..., str]]] = {
+    "tracing file": ("# tracer: nop\n#\n", tracing_line),
+    "tracing file with processes": ("# tracer: nop\n#\n", with_process),
+    "trace-cmd": ("CPU 7 is empty\ncpus=4\n", trace_cmd_line),
+}
+
+
+def framed(text: str, begins: str, line_of: Callable[..., str]) -> str:
+    """The text of perf in another frame. The others tell who ends where perf says -1."""
+    lines = [line for line in text.splitlines() if line.strip() and not line.startswith("#")]
+    for comm, pid, *more in (PERF_LINE.fullmatch(line).groups() for line in lines):
+        comm, pid = FULL_SWITCH.fullmatch(more[-1]).group(1, 2) if pid == "-1" else ("<idle>" if pid == "0" else comm, pid)
+        begins += line_of(comm, pid, *more)
+    return begins
+
+
+@functools.cache
+def framed_texts() -> dict[str, tuple[str, Made]]:
+    """Recordings that are kept, and those of tests/recordings.txt whose lines are all such as each frame has; and what is made of them."""
+    texts = {path.name: path.read_text() for path in sorted(KEPT.glob("*.txt"))}
+    for name, (given, words, wanted) in rig.cases("recordings.txt").items():
+        text = "".join(map(line_of, given.splitlines()))
+        lines = [line for line in text.splitlines() if line.strip() and not line.startswith("#")]
+        if wanted["script"] and not words and lines and " -1 [" not in text and all(map(PERF_LINE.fullmatch, lines)):
+            texts[name] = text
+    assert len(texts) > 30, len(texts)
+    return {name: (text, make(text)) for name, text in texts.items()}
+
+
+@rig.each(FRAMES)
+def test_the_frames_of_a_line(begins: str, line_of: Callable[..., str]) -> None:
+    """The same events say the same in each."""
+    for name, (text, wanted) in framed_texts().items():
+        same(make(framed(text, begins, line_of)), wanted, name)
+
+
+def test_an_event_in_each_frame() -> None:
+    """The same switch, written by hand."""
+    texts = [
+        "               a     7 [001]     2.000010: sched:sched_switch: a:7 [120] S ==> b:8 [120]\n",
+        "# tracer: nop\n               a-7       [001] d..2.     2.000010: sched_switch: prev_comm=a prev_pid=7 prev_prio=120 "
+        "prev_state=S ==> next_comm=b next_pid=8 next_prio=120\n",
+        "cpus=2\n               a-7     [001]     2.000010: sched_switch:         a:7 [120] S ==> b:8 [120]\n",
+    ]
+    come = ["create 1 3 ready", "publish 1", "consume 1"]
+    wanted = ["enclave 2 2 1000000 65536 4294967295", *come, "commit 1 t0 1", "block 1 0", *come, "commit 1 t1 3"]
+    for text in texts:
+        same(make(text).commands, wanted, text)
 
 
 # Bad input
 
 def test_a_text_that_is_no_recording_and_has_no_end() -> None:
-    same(make("hello", status=1).told, ["this is no recording: no line of it is an event of perf script"])
+    same(make("hello", status=1).told, ["the standard input: this is no recording: no line of it is an event"])
 
 
 def test_a_long_line_takes_no_long_time() -> None:
@@ -183,10 +287,19 @@ def test_a_long_line_takes_no_long_time() -> None:
     assert time.monotonic() - began < 20
 
 
+def test_a_bad_line_is_told_by_its_file() -> None:
+    for text, what in (("hello\nhello\n", "line 1 is no event of a recording: hello"), ("hello", "this is no recording: no line of it is an event")):
+        with rig.file(text) as file:
+            same(outcome(ask(file, "--script", "-")), (1, "", f'pc-sim: "{file}": {what}\n'))
+
+
 def test_a_bad_line_leaves_the_files_as_they_are() -> None:
-    with rig.file("mine\n") as script:
-        make("hello\nhello\n", "-o", str(script), status=1)
-        same(script.read_text(), "mine\n")
+    with rig.folder() as folder:
+        (folder / "mine").write_text("mine\n")
+        for option in TEXTS:
+            same(ask(f"--{option}", folder / "mine", given="hello\nhello\n").returncode, 1)
+            same(ask(f"--{option}", folder / "other", given="hello\nhello\n").returncode, 1)
+        same([(it.name, it.read_text()) for it in folder.iterdir()], [("mine", "mine\n")])
 
 
 def test_a_last_line_that_was_cut_short() -> None:
@@ -197,56 +310,196 @@ def test_a_last_line_that_was_cut_short() -> None:
 
 
 def test_files_that_are_not_there() -> None:
-    fault = "/no/such/file: No such file or directory"
-    same(outcome(run(TOOL, "/no/such/file")), (1, "", f"from-perf-sched: {fault}\n"))
-    same(make("", "-o", "/no/such/file", status=1).told, [fault])
+    fault = "No such file or directory (os error 2)\n"
+    same(outcome(ask("/no/such/file")), (1, "", f'{UNREAD}pc-sim: "/no/such/file": {fault}'))
+    for option in TEXTS:
+        same(outcome(ask(f"--{option}", "/no/such/file")), (1, "", f'{UNREAD}pc-sim: "/no/such/file", which was to be written: {fault}'))
 
 
 def test_files_that_cannot_be_read_or_written() -> None:
     text = switch(10, 0, 7, "S", 0)
-    same(make(text, "-o", "/dev/full", status=1).told, ["/dev/full: No space left on device"])
-    with open("/dev/full", "w") as full:
-        ended = run(TOOL, given=text, stdout=full)
-    same((ended.returncode, ended.stderr), (1, "from-perf-sched: standard output: No space left on device\n"))
-    same(outcome(run("bash", "-c", '"$0" <&-', TOOL)), (1, "", "from-perf-sched: standard input: Bad file descriptor\n"))
-    same(outcome(run(TOOL, "/")), (1, "", "from-perf-sched: /: Is a directory\n"))
+    for option in TEXTS:
+        told = f'{UNREAD}pc-sim: "/dev/full", which was to be written: No space left on device (os error 28)\n'
+        same(outcome(ask(f"--{option}", "/dev/full", given=text)), (1, "", told))
+        with open("/dev/full", "w") as full:
+            ended = ask(f"--{option}", "-", given=text, stdout=full)
+        same((ended.returncode, ended.stderr), (1, f"{UNREAD}pc-sim: the standard output: No space left on device (os error 28)\n"))
+    closed = run("bash", "-c", 'exec "$0" import <&-', rig.program)
+    same(outcome(closed), (1, "", f"{UNREAD}pc-sim: the standard input: Bad file descriptor (os error 9)\n"))
+    same(outcome(ask("/")), (1, "", f'{UNREAD}pc-sim: "/": Is a directory (os error 21)\n'))
 
 
 def test_a_recording_is_not_written_over() -> None:
     text = switch(10, 0, 7, "S", 0)
-    for option in ("-o", "--settings", "--load", "--waits"):
+    for option in TEXTS:
         with rig.file(text) as recording, rig.folder() as other:
             (other / "link").symlink_to(recording)
-            ended = run(TOOL, recording, option, other / "link")
-            same(outcome(ended), (1, "", f"from-perf-sched: {other}/link: it is what is read, and stays as it is\n"))
-            with recording.open() as given:
-                same(run(TOOL, option, recording, stdin=given).returncode, 1)
-            same(recording.read_text(), text)
+            (other / "hard").hardlink_to(recording)
+            for name in (recording, other / "link", other / "hard"):
+                told = f'{UNREAD}pc-sim: "{name}", which was to be written: the recording is read from it\n'
+                same(outcome(ask(recording, f"--{option}", name)), (1, "", told))
+                with recording.open() as given:
+                    same(outcome(ask(f"--{option}", name, stdin=given)), (1, "", told))
+            same((recording.read_text(), sorted(it.name for it in other.iterdir())), (text, ["hard", "link"]))
+
+
+# Where texts go
+
+def made_apart(text: str) -> dict[str, str]:
+    """What is made of a recording, each text asked for alone, on standard output."""
+    ended = {name: ask(f"--{name}", "-", given=text) for name in TEXTS}
+    same({it.returncode for it in ended.values()}, {0})
+    return {name: it.stdout for name, it in ended.items()}
+
+
+def test_nothing_is_written_that_is_not_asked_for() -> None:
+    text = switch(0, 0, 0, "R", 7) + switch(10, 0, 7, "S", 0)
+    with rig.folder() as folder:
+        (folder / "recording").write_text(text)
+        ended = ask("recording", cwd=folder)
+        same((ended.returncode, ended.stdout, [it.name for it in folder.iterdir()]), (0, "", ["recording"]))
+    same(ended.stderr.splitlines(), [f"pc-sim: {it}" for it in make(text).told])
+
+
+def test_texts_are_the_same_whatever_else_is_made() -> None:
+    text = (KEPT / "shell-pipelines.txt").read_text()
+    apart = made_apart(text)
+    assert all(apart.values())
+    for names in itertools.permutations(TEXTS, 4):
+        with rig.folder() as folder:
+            ended = ask("-", *(word for name in names for word in (f"--{name}", folder / name)), given=text)
+            same((ended.returncode, ended.stdout), (0, ""))
+            same({name: (folder / name).read_text() for name in TEXTS}, apart)
+
+
+def test_two_texts_do_not_go_to_one_place() -> None:
+    text = switch(10, 0, 7, "S", 0)
+    for one, other in itertools.combinations(TEXTS, 2):
+        with rig.folder() as folder:
+            (folder / "there").write_text("as it was")
+            (folder / "link").symlink_to("there")
+            for name, same_name in (("-", "-"), ("new", "new"), ("there", "there"), ("there", "./there"), ("there", "link")):
+                for words in ((f"--{one}", name, f"--{other}", same_name), (f"--{other}", same_name, f"--{one}", name)):
+                    told = f'{BAD}pc-sim: --{one} and --{other} cannot both be "{same_name}"{MORE}\n'
+                    found = outcome(ask("-", *words, given=text, cwd=folder))
+                    same((*found[:2], re.sub(r'"(?:\./)?(?:there|link)"', f'"{same_name}"', found[2])), (2, "", told))
+            same((sorted(it.name for it in folder.iterdir()), (folder / "there").read_text()), (["link", "there"], "as it was"))
 
 
 def test_a_file_is_put_in_place_when_it_is_whole() -> None:
     text = switch(10, 0, 7, "S", 0)
-    with rig.folder() as place:
-        (place / "script").write_text("old\n")
-        (place / "script").chmod(0o640)
-        make(text, "-o", str(place / "script"))
-        same([it.name for it in place.iterdir()], ["script"])
-        same(((place / "script").read_text(), (place / "script").stat().st_mode & 0o777), ("\n".join(make(text).script) + "\n", 0o640))
+    for name, wanted in made_apart(text).items():
+        with rig.folder() as place:
+            (place / name).write_text("old\n" * 10_000)
+            (place / name).chmod(0o640)
+            with (place / name).open() as old:
+                same(ask("-", f"--{name}", place / name, given=text).returncode, 0)
+                same(old.read(), "old\n" * 10_000)
+            same([it.name for it in place.iterdir()], [name])
+            same(((place / name).read_text(), (place / name).stat().st_mode & 0o777), (wanted, 0o640))
 
 
-def test_a_bad_command_line() -> None:
-    for line in ("--cpus 0", "--cpus 65", "--cpus x", "--limit -1", "a b", "--unknown"):
-        same(outcome(run(TOOL, *line.split(), given=""))[:2], (2, ""), line)
+def test_a_link_leads_to_what_is_replaced() -> None:
+    text = switch(10, 0, 7, "S", 0)
+    with rig.folder() as top:
+        (top / "far").mkdir()
+        (top / "far/script").write_text("old\n")
+        (top / "link").symlink_to("far/script")
+        same(ask("-", "--script", top / "link", given=text).returncode, 0)
+        same((top / "link").readlink(), pathlib.Path("far/script"))
+        same((top / "far/script").read_text(), made_apart(text)["script"])
+        same([sorted(it.name for it in folder.iterdir()) for folder in (top, top / "far")], [["far", "link"], ["script"]])
 
 
-def test_a_file_and_help() -> None:
+def test_a_write_that_fails_leaves_all_as_it_was() -> None:
+    """Files may not grow past a kilobyte."""
+    with rig.folder() as top:
+        (top / "there").write_text("as it was")
+        for name in ("there", "new"):
+            line = f'trap "" XFSZ; ulimit -f 1; exec "$0" import "$1" --script {name}'
+            ended = run("bash", "-c", line, rig.program, KEPT / "python-pool.txt", cwd=top)
+            told = f'{UNREAD}pc-sim: "{name}", which was to be written: File too large (os error 27)\n'
+            same(outcome(ended), (1, "", told))
+        same([(it.name, it.read_text()) for it in top.iterdir()], [("there", "as it was")])
+
+
+def test_pipes_are_read_and_written_as_they_stand() -> None:
+    path = KEPT / "shell-pipelines.txt"
+    wanted = made_apart(path.read_text())
+    with rig.folder() as top:
+        for name in ("given", "made"):
+            os.mkfifo(top / name)
+        line = 'cat "$1" >given & cat made >copy & "$0" import given --load made --script - && wait'
+        ended = run("bash", "-c", line, rig.program, path, cwd=top)
+        same((ended.returncode, ended.stdout, (top / "copy").read_text()), (0, wanted["script"], wanted["load"]), ended.stderr)
+        assert (top / "made").is_fifo()
+
+
+def test_words_and_help() -> None:
+    """Which words are mistakes, tests/mistakes.txt has."""
     with rig.file(switch(10, 0, 7, "S", 0)) as text:
         script = text.with_name("script")
-        same(outcome(run(TOOL, text, "-o", script))[:2], (0, ""))
+        same(outcome(ask("--script", script, text))[:2], (0, ""))
         same(script.read_text().splitlines(), make(text.read_text()).script)
-    told = good(run(TOOL, "--help"))
-    for flag in ("-o SCRIPT", "--settings FILE", "--cpus N", "--limit N", "--kernel-threads"):
+    told = good(ask("--help"))
+    for flag in (*(f"--{it} <FILE>" for it in TEXTS), "--times", "--kernel-threads", "--cpus <NUMBERS>", "--limit <NUMBER>"):
         assert flag in told
+
+
+# CPUs and events that are chosen
+
+def many_cpus(count: int) -> str:
+    """A recording of so many CPUs, on each of which a thread comes and leaves."""
+    come = [switch(10, cpu, 0, "R", 1_000 + cpu) for cpu in range(count)]
+    return "".join([*come, *(switch(20 + cpu, cpu, 1_000 + cpu, "S", 0) for cpu in range(count))])
+
+
+@rig.each({"65": (65, "0-63 or 64-64"), "128": (128, "0-63 or 64-127"), "200": (200, "0-63, 64-127, 128-191 or 192-199")})
+def test_more_cpus_than_are_told(count: int, ranges: str) -> None:
+    """They are told in ranges, each of which has its own threads alone."""
+    text = many_cpus(count)
+    status, out, errors = outcome(ask("--script", "-", given=text))
+    same((status, out), (2, ""))
+    rig.matches(errors, rf"\A{BAD}pc-sim: the standard input: .*\b{count} CPUs\b.* {ranges}{MORE}\n\Z")
+    begins = 0
+    for first, last in re.findall(r"(\d+)-(\d+)", ranges):
+        same((int(first), int(last) < count), (begins, True))
+        begins = int(last) + 1
+        made = make(text, "--cpus", f"{first}-{last}")
+        same(re.findall(r"^# t\d+ is p(\d+)", text_of(made.script), re.M), [str(1_000 + cpu) for cpu in range(int(first), begins)])
+        same(made.told[0].split(", ")[1], f"{begins - int(first)} CPUs")
+    same(begins, count)
+
+
+def test_cpus_that_are_not_there() -> None:
+    text = many_cpus(4)
+    for words in ("4", "4-5", "63-70", "4294967295"):
+        told = f"{BAD}pc-sim: the standard input: the recording has CPUs 0 to 3{MORE}\n"
+        same(outcome(ask("--script", "-", "--cpus", words, given=text)), (2, "", told), words)
+    same(make(text, "--cpus", "3-4").commands[0], "enclave 2 1 1000000 65536 4294967295")
+    for words in ("0-64", "3-67"):
+        rig.matches(ask("--cpus", words, given=text).stderr, rf"\A{BAD}pc-sim: the standard input: .*\b65 CPUs\b")
+
+
+def test_ranges_of_one_recording_have_each_switch_once() -> None:
+    """Each switch of a recording is committed once, by the CPU that it is of."""
+    text = (KEPT / "python-pool.txt").read_text()
+    told = ["\n".join(make(text, *words).told) for words in (["--cpus", "0-1"], ["--cpus", "2-3"], [])]
+    for what in ("commits of recorded switches", "switches to the idle thread", "kernel threads: switches"):
+        one, other, whole = (sum(map(int, re.findall(rf"(\d+) {what}", it))) for it in told)
+        same((one + other, whole > 0), (whole, True), what)
+
+
+def test_so_many_events_at_most() -> None:
+    """Of what is behind them nothing is looked at."""
+    text = "".join(switch(us, 0, 7 + us % 2, "R", 8 - us % 2) for us in range(20))
+    lines = text.splitlines(keepends=True)
+    for count in (1, 7, 20):
+        front = make("".join(lines[:count]))
+        same(make(text, "--limit", str(count)), front)
+        same(make("".join(lines[:count]) + "hello\n" * 2, "--limit", str(count)), front)
+    same(make(text, "--limit", "18446744073709551615"), make(text))
+    same(make("hello\n" * 2, "--limit", "0").told, make("").told)
 
 
 # Settings
@@ -267,7 +520,7 @@ def test_settings_of_too_many_threads() -> None:
     same(made.told[-1], "left out of the settings: 2 threads past the greatest count or length")
 
 
-# The recordings that are kept, with what the tool and the program make of them.
+# The recordings that are kept, with what is made of them.
 
 def test_the_kept_recordings() -> None:
     texts = sorted(KEPT.glob("*.txt"))
@@ -321,7 +574,7 @@ def record(*words: object, **more: object) -> subprocess.CompletedProcess[str]:
 
 
 def test_a_kept_recording_beside_the_lab() -> None:
-    """What was recorded is told as the tool has it, and the nearest variant as the lab of the tests has it."""
+    """What was recorded is told as it was made, and the nearest variant as the lab of the tests has it."""
     with rig.folder() as name:
         folder = name / "pool"
         folder.mkdir(0o755)
@@ -345,7 +598,7 @@ def test_a_load_and_the_waits_that_were_recorded() -> None:
     text = switch(0, 0, 0, "R", 7) + switch(10, 0, 7, "R", 9) + switch(30, 0, 9, "R+", 7) + switch(35, 0, 7, "S", 9)
     text += wake(50, 0, 9, 7, 0) + wake(50, 0, 9, 8, 0) + switch(60, 0, 9, "X", 8) + switch(64, 0, 8, "Z", 7) + switch(70, 0, 7, "S", 0)
     with rig.folder() as folder:
-        ended = run(TOOL, "-", "-o", "/dev/null", "--load", folder / "load", "--waits", folder / "waits", given=text)
+        ended = ask("--load", folder / "load", "--waits", folder / "waits", given=text)
         same(ended.returncode, 0, ended.stderr)
         load, waits = (folder / "load").read_text(), (folder / "waits").read_text()
     same(load, "cpus = 1\n\n" + "\n".join(f"# {name}\n" + table("thread", queue=0, mask=1, start=start, steps=steps, sleeps=sleeps) for name, start, steps, sleeps in [
@@ -358,13 +611,13 @@ def test_a_load_and_the_waits_that_were_recorded() -> None:
 
 def test_by_how_much_numbers_are_off() -> None:
     """By hand: 1 is added to all, so the first are 2 and 8, 9 and 3, which are off by 4 and 3."""
-    off_by = load_tool(RECORD).off_by
+    off_by = record_loads().off_by
     near(off_by([1, 8], [7, 2]), 12 ** 0.5)
     near(off_by([0, 5], [0, 5]), 1)
 
 
 def test_variants_are_spelled_as_the_lab_reads_them() -> None:
-    tool = load_tool(RECORD)
+    tool = record_loads()
     variants = tool.tried()[:8] + [tool.replace(change(tool.DEFAULT), name=word) for word, change in tool.CHANGES.items()]
     read = variants_of("".join(map(tool.spelled, variants)))
     same([{key: value for key, value in vars(it).items() if key != "keep"} for it in read], list(map(vars, variants)))
@@ -377,7 +630,7 @@ def test_what_is_not_there_is_told() -> None:
         same(outcome(record("--to", folder, "web", env={"PATH": ""})), (1, "", told))
         status, out, errors = outcome(record("--to", folder, "--keep", "nice"))
         same((status, out), (1, ""))
-        assert "nice is passed over: from-perf-sched: " in errors
+        assert errors.endswith('nice is passed over: pc-sim: "recording.txt": No such file or directory (os error 2)\n'), errors
 
 
 def test_a_kind_that_there_is_not() -> None:
@@ -390,13 +643,12 @@ def cells_of(table: str) -> dict[str, str]:
     return {line[:26].strip(): line[26:].strip() for line in table.splitlines()}
 
 
-def load_tool(path: pathlib.Path = TOOL) -> types.ModuleType:
-    """The tool as a module. What stands beside it is found there."""
+def record_loads() -> types.ModuleType:
+    """The tool as a module."""
     sys.dont_write_bytecode = True
-    sys.path.insert(0, str(path.parent))
-    loader = importlib.machinery.SourceFileLoader(path.name.replace("-", "_"), str(path))
+    loader = importlib.machinery.SourceFileLoader("record_loads", str(RECORD))
     module = sys.modules[loader.name] = types.ModuleType(loader.name)
-    module.__file__ = str(path)
+    module.__file__ = str(RECORD)
     loader.exec_module(module)
     return module
 

@@ -191,7 +191,7 @@ def test_examples_and_loads_of_the_lab_stand_by_their_ticks() -> None:
     scripts = {file.name: file.read_text() for file in sorted((ROOT / "examples/lab/worked").glob("*.script"))}
     scripts |= {file.name: timed_script(front_of(file.read_text(), MOST_SINGLE - 100), place) for place, file in enumerate(SCRIPTS)}
     for name in ("shell-pipelines", "python-pool"):
-        scripts[name] = rig.run(ROOT / "tools/from-perf-sched", "--times", ROOT / f"examples/recordings/{name}.txt", check=True).stdout
+        scripts[name] = rig.ask("import", "--times", "--script", "-", ROOT / f"examples/recordings/{name}.txt", check=True).stdout
     assert len(scripts) > 15
     for name, script in scripts.items():
         with rig.about(name):

@@ -1,5 +1,5 @@
 #!/usr/bin/env python3
-"""Tests `tools/to-trace`, and the times that `tools/from-perf-sched` writes for it."""
+"""Tests `tools/to-trace`, and the times that `pc-sim import` writes for it."""
 import json
 import re
 import tomllib
@@ -117,7 +117,7 @@ def test_what_is_read_is_not_written_over():
 def test_times_of_recordings():
     """They ascend, and are all that --times adds."""
     for path in sorted((ROOT / "examples/recordings").glob("*.txt")):
-        plain, timed = (rig.run(ROOT / "tools/from-perf-sched", path, *words, check=True).stdout.splitlines() for words in ([], ["--times"]))
+        plain, timed = (rig.ask("import", path, "--script", "-", *words, check=True).stdout.splitlines() for words in ([], ["--times"]))
         times = [int(line.split()[2]) for line in timed if line.startswith("# at ")]
         same([line for line in timed if not line.startswith("# at ")], plain)
         same((times, times[0]), (sorted(set(times)), 0))

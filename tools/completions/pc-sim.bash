@@ -6,7 +6,7 @@ _pc_sim_command() {
     local word
     for word; do
         case $word in
-        replay | explain | draw | run | session | lab)
+        replay | explain | draw | run | session | lab | import)
             echo "$word"
             return
             ;;
@@ -30,6 +30,7 @@ _pc_sim() {
     draw) flags="--cpus --lines --time -h --help" ;;
     session) flags="--explain -h --help" ;;
     lab) flags="--variants --per-cpu --csv --picture --script -h --help" ;;
+    import) flags="--script --load --settings --waits --times --kernel-threads --cpus --limit -h --help" ;;
     replay | explain) flags="-h --help" ;;
     *) flags="-h --help -V --version" ;;
     esac
@@ -48,15 +49,20 @@ _pc_sim() {
         [ "$command" = lab ] || _pc_sim_files "$word" script
         return
         ;;
-    --variants)
+    --variants | --load | --settings)
         _pc_sim_files "$word" toml
+        return
+        ;;
+    --waits)
+        _pc_sim_files "$word" waits
         return
         ;;
     esac
     case $command:$word in
     *:-*) mapfile -t COMPREPLY < <(compgen -W "$flags" -- "$word") ;;
-    :*) mapfile -t COMPREPLY < <(compgen -W "replay explain draw run session lab" -- "$word") ;;
+    :*) mapfile -t COMPREPLY < <(compgen -W "replay explain draw run session lab import" -- "$word") ;;
     run:* | lab:*) _pc_sim_files "$word" toml ;;
+    import:*) _pc_sim_files "$word" txt ;;
     *) _pc_sim_files "$word" script ;;
     esac
 }

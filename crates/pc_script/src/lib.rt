@@ -26,7 +26,6 @@ mod machine;
 mod observer;
 mod outcome;
 mod output;
-mod piece;
 mod places;
 mod policy;
 mod response;

@@ -1,9 +1,9 @@
 //! What no script of tests/cases can say: a script over memory, the words of a command line, and how the program ends.
 
 use pc_program::{
-    Axis, CommandFault, DrawnPart, Ending, Failure, Helper, Interval, Missing, ProgramCommand,
-    ReportForm, ScriptForm, Seeds, VariantsFrom, converse_flushed, make, read_command,
-    replay_flushed, run_script,
+    Axis, CommandFault, DrawnPart, Ending, Failure, Helper, ImportFiles, Interval, Missing,
+    ProgramCommand, ReportForm, ScriptForm, Seeds, VariantsFrom, converse_flushed, make,
+    read_command, replay_flushed, run_script,
 };
 use pc_script::Outcome;
 use std::alloc::Global;
@@ -138,6 +138,8 @@ enum Asked {
     /// Whether other variants are tried, whether the time of each CPU is told, whether for other tools, and whether the
     /// waits are drawn.
     Lab(bool, bool, bool, bool),
+    /// Of which CPUs, and of how many events at most; which files are named, and which flags are set.
+    Import(Option<Interval>, Option<u64>, [bool; 4], [bool; 2]),
 }
 
 fn read_off(
@@ -167,7 +169,28 @@ fn read_off(
             Asked::Lab(are_others(&variants), per_cpu, csv, picture),
             file,
         )),
+        ProgramCommand::Import {
+            file,
+            files,
+            times,
+            kernel_threads,
+            cpus,
+            limit,
+        } => {
+            let flags = [times, kernel_threads];
+            Ok((Asked::Import(cpus, limit, are_named(&files), flags), file))
+        }
     }
+}
+
+/// Which files a recording is written into, each by the name that its option has here.
+fn are_named(files: &ImportFiles) -> [bool; 4] {
+    [
+        is_named(&files.script, Some("made.script")),
+        is_named(&files.load, Some("load.toml")),
+        is_named(&files.settings, Some("settings.toml")),
+        is_named(&files.waits, Some("-")),
+    ]
 }
 
 /// Whether variants are those of another text.
@@ -257,7 +280,7 @@ const LAST_SEEDS: Asked = Asked::Tally(Seeds {
 });
 
 /// Words, and what they ask for, of which file.
-static COMMANDS: [(&[&str], Asked, Option<&str>); 27] = [
+static COMMANDS: [(&[&str], Asked, Option<&str>); 29] = [
     (&["pc-sim", "replay"], Asked::Replay, None),
     (
         &["pc-sim", "replay", "a.script"],
@@ -371,6 +394,38 @@ static COMMANDS: [(&[&str], Asked, Option<&str>); 27] = [
         &["pc-sim", "lab", "--picture", "l.toml"],
         Asked::Lab(false, false, false, true),
         Some("l.toml"),
+    ),
+    (
+        &["pc-sim", "import", "-"],
+        Asked::Import(None, None, [false; 4], [false; 2]),
+        None,
+    ),
+    (
+        &[
+            "pc-sim",
+            "import",
+            "--script=made.script",
+            "r.txt",
+            "--load",
+            "load.toml",
+            "--settings",
+            "settings.toml",
+            "--waits",
+            "-",
+            "--times",
+            "--kernel-threads",
+            "--cpus",
+            "3-7",
+            "--limit",
+            "18446744073709551615",
+        ],
+        Asked::Import(
+            Some(Interval { first: 3, last: 7 }),
+            Some(u64::MAX),
+            [true; 4],
+            [true; 2],
+        ),
+        Some("r.txt"),
     ),
 ];
 

@@ -15,6 +15,7 @@ plain command.Draw = refl
 plain command.Run = refl
 plain command.Session = refl
 plain command.Lab = refl
+plain command.Import = refl
 
 pub returns : goal.returns
 returns c =

@@ -1,0 +1,25 @@
+//! Recordings of the Linux scheduler as scripts, loads and settings.
+//!
+//! What the model accepts of what was recorded is asked of a kernel that is stepped along.
+#![tactic(auto)]
+
+mod accepted;
+mod asker;
+mod cpus;
+mod facts;
+mod importing;
+mod lives;
+mod report;
+mod script;
+mod tally;
+mod texts;
+mod translator;
+mod waits;
+
+pub use accepted::ImportFault;
+pub use asker::{Asked, Refused};
+pub use cpus::{CpuFault, CpuRange, ManyCpus, ToldCpus};
+pub use importing::{Imported, MadeText, Wanted, import};
+pub use report::write_report;
+pub use tally::{Insertion, Omission, Tally};
+pub use texts::LeftOut;

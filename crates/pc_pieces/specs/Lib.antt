@@ -1,0 +1,2 @@
+-- A text that is read in pieces.
+pub mod Pieces
