@@ -71,8 +71,8 @@ pub enum CpuFault {
     NotThere(u32),
 }
 
-/// The CPUs of a recording that are told, at least one and 64 at most. Each has the number by which it stands behind the
-/// first.
+/// The CPUs of a recording that are told, at least one and 64 at most. Each has the number by which it stands behind
+/// the first.
 #[derive(Clone, Copy, Debug, PartialEq, Eq)]
 pub struct ToldCpus {
     first: u16,
@@ -86,7 +86,8 @@ impl ToldCpus {
 
     /// Those of a recording that are chosen: all, if none are.
     pub fn of(recording: &Recording, chosen: Option<CpuRange>) -> Result<ToldCpus, CpuFault>
-        ensures ok { IfOk result (AreTold (some (cpus_of recording.now)) (chosen_of (some (cpus_of recording.now)) chosen)) }
+        ensures ok { IfOk result
+            (AreTold (some (cpus_of recording.now)) (chosen_of (some (cpus_of recording.now)) chosen)) }
         ensures err { IfErr result
             (AreNotTold (some (cpus_of recording.now)) (chosen_of (some (cpus_of recording.now)) chosen)) }
     {

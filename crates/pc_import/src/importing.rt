@@ -91,7 +91,8 @@ fn settings_of(
 /// Makes what is wanted of a recording, after a kernel that is stepped along by it.
 ///
 /// # Errors
-/// Want of memory; or that what was made would be refused, which no recording is known to lead to. Then nothing is made.
+/// Want of memory; or that what was made would be refused, which no recording is known to lead to. Then nothing is
+/// made.
 pub fn import(
     alloc: Global,
     recording: &Recording,
