@@ -2,4 +2,5 @@
 -- command; each load is one that the lab takes, and all settings are such that a run takes.
 pub mod Accepted
 pub mod Cpus
+pub mod Levels
 pub mod Scripts

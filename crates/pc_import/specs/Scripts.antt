@@ -6,6 +6,8 @@ use Rattle.pc_script.specs.Grammar.{command_text}
 use Rattle.pc_script.specs.declared.command.Command.TheVariants as command
 use Rattle.pc_import.specs.declared.script.Unrecorded.{Unrecorded}
 use Rattle.pc_import.specs.declared.script.Unrecorded.TheVariants.{Coming, Leaving, Waking}
+use Rattle.pc_import.specs.declared.window.Edge.{Edge}
+use Rattle.pc_import.specs.declared.window.Edge.TheVariants.{From, UpTo}
 
 -- a byte of a name, as a comment has it: a question mark for one that is not printed
 abbrev pub shown_byte : ℕ → ℕ
@@ -33,6 +35,11 @@ unrecorded_line (Leaving thread cpu) =
     codes "# not recorded: how t" ++ (decimal thread ++ (codes " left CPU " ++ (decimal cpu ++ codes "\n")))
 unrecorded_line (Waking thread) = codes "# not recorded: the waking of t" ++ (decimal thread ++ codes "\n")
 
+-- from where on, or up to where, a CPU is recorded
+abbrev pub edge_line : Edge → List ℕ
+edge_line (From cpu) = codes "# CPU " ++ (decimal cpu ++ codes " is recorded from here\n")
+edge_line (UpTo cpu) = codes "# CPU " ++ (decimal cpu ++ codes " is recorded up to here\n")
+
 -- the line that asks for an event
 abbrev pub event_line : Event → List ℕ
 event_line event = command_text (command.Event event) ++ codes "\n"
@@ -42,6 +49,7 @@ pub data IsLine : List ℕ → Type 0 where
   at_tick : (tick : ℕ) → IsLine (tick_line tick)
   naming : (thread : ℕ) (name : List ℕ) (pid : ℕ) → IsLine (naming_line thread name pid)
   unrecorded : (what : Unrecorded) → IsLine (unrecorded_line what)
+  edge : (edge : Edge) → IsLine (edge_line edge)
   event : (event : Event) → IsLine (event_line event)
 
 -- Lines, one after another

@@ -3,8 +3,9 @@
 ghost use Rattle.std.specs.Prelude.{IfOk, IfSome};
 ghost use Rattle.pc_import.specs.Scripts.{IsScript};
 
-use crate::lives::Lives;
+use crate::histories::Histories;
 use crate::script::{ScriptLines, Unrecorded, script_of};
+use crate::window::Edge;
 use pc_calls::{
     AgentCall, Call, CallFault, EnvCall, Event, Leaving, Left, Limits, Profile, Refusal,
 };
@@ -75,11 +76,12 @@ pub(crate) struct Asker {
     kernel: Kernel,
     cpus: u8,
     told: Option<Told>,
-    pub(crate) lives: Lives,
+    pub(crate) histories: Histories,
     pub(crate) asked: u64,
     pub(crate) moves: u64,
     pub(crate) refused: Vec<Refused>,
-    /// Microseconds since the first event.
+    /// Of the event that is told now: nanoseconds by the clock of the recording, and microseconds since the first.
+    pub(crate) time: u64,
     pub(crate) tick: u64,
 }
 
@@ -108,12 +110,13 @@ impl Told {
 }
 
 impl Asker {
-    /// A kernel of so many CPUs that was asked nothing yet; and a script, if one is wanted.
+    /// A kernel of so many CPUs that was asked nothing yet; a script, if one is wanted; and the lives that are.
     pub(crate) fn new(
         alloc: Global,
         cpus: u8,
         script: bool,
         tells_times: bool,
+        histories: Histories,
     ) -> Result<Asker, AllocError> {
         let limits = Limits {
             cpus,
@@ -139,10 +142,11 @@ impl Asker {
             kernel,
             cpus,
             told,
-            lives: Lives::new(alloc),
+            histories,
             asked: 0,
             moves: 0,
             refused: Vec::new(alloc),
+            time: 0,
             tick: 0,
         })
     }
@@ -181,6 +185,19 @@ impl Asker {
                 Ok(())
             }
             None => Ok(()),
+        }
+    }
+
+    /// Tells from where on, or up to where, a CPU is recorded, where the script tells times.
+    pub(crate) fn tell_edge(&mut self, tick: u64, edge: Edge) -> Result<(), AllocError> {
+        match &mut self.told {
+            Some(told) if told.tells_times => {
+                if told.begin(tick)? {
+                    told.lines.push_edge(edge)?;
+                }
+                Ok(())
+            }
+            _ => Ok(()),
         }
     }
 
@@ -318,20 +335,20 @@ impl Asker {
         };
         let call = EnvCall::Create { queue, ready, mask };
         if self.ask(Asked::Create, &Event::Env(call))? {
-            self.lives.created(task, queue, ready, self.tick)?;
+            self.histories.created(task, queue, ready, self.time)?;
             Ok(Some(name))
         } else {
             Ok(None)
         }
     }
 
-    /// Wakes a thread that is blocked.
-    pub(crate) fn wake(&mut self, thread: Tid) -> Result<(), AllocError> {
+    /// Wakes a thread that is blocked, as this one did, if any did.
+    pub(crate) fn wake(&mut self, thread: Tid, waker: Option<Tid>) -> Result<(), AllocError> {
         if let Some(home) = self.kernel().queue_of(thread) {
             self.make_room(home)?;
         }
         if self.ask(Asked::Wake, &Event::Env(EnvCall::Wake { thread }))? {
-            self.lives.woke(thread, self.tick)?;
+            self.histories.woke(thread, waker, self.time)?;
         }
         Ok(())
     }
@@ -343,7 +360,7 @@ impl Asker {
         };
         self.make_room(left.cpu)?;
         if self.ask(Asked::Leave(left.leaving), &Event::Env(left.call()))? {
-            self.lives.left(thread, left, self.tick)?;
+            self.histories.left(thread, left, self.time)?;
         }
         Ok(())
     }
@@ -380,7 +397,7 @@ impl Asker {
         let call = AgentCall::Commit { cpu, thread, aseq };
         let is_accepted = self.ask(Asked::Commit, &Event::Agent(call))?;
         if is_accepted {
-            self.lives.came(thread, self.tick)?;
+            self.histories.came(thread, self.time)?;
         }
         Ok(is_accepted)
     }

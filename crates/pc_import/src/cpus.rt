@@ -129,6 +129,11 @@ impl ToldCpus {
         self.count
     }
 
+    /// The number that a CPU has in the recording.
+    pub(crate) fn number(&self, cpu: Cpu) -> u16 {
+        self.first.saturating_add(u16::from(cpu.index()))
+    }
+
     /// The CPU that the recording has under this number, if it is told.
     pub(crate) fn cpu(&self, number: u16) -> Option<Cpu> {
         let behind = number.checked_sub(self.first)?;

@@ -9,16 +9,19 @@ ghost use Rattle.toml.specs.Parse.{parse_document};
 use crate::accepted::{ImportFault, accepted_load, accepted_settings};
 use crate::asker::{Asker, Refused};
 use crate::cpus::ToldCpus;
+use crate::histories::Histories;
+use crate::levels::LevelTable;
 use crate::lives::Lives;
 use crate::tally::Tally;
 use crate::texts::{LeftOut, load_text, settings_text};
 use crate::translator::Translator;
 use crate::waits::waits_text;
+use crate::window::{ChosenTime, ToldTime, Window, first_time};
 use pc_recording::Recording;
 use std::alloc::Global;
 
 /// What is to be made of a recording.
-#[derive(Clone, Copy, Debug, PartialEq, Eq)]
+#[derive(Debug, Drop)]
 pub struct Wanted {
     pub script: bool,
     /// Whether the script tells the time of what comes next.
@@ -30,6 +33,17 @@ pub struct Wanted {
     pub kernel_threads: bool,
     /// Which CPUs are told.
     pub cpus: ToldCpus,
+    /// Which time the load and the waits tell.
+    pub time: ChosenTime,
+    /// Which levels the threads of the load have.
+    pub levels: LevelTable,
+}
+
+impl Wanted {
+    /// Whether anything is wanted that tells of a window.
+    fn has_window(&self) -> bool {
+        self.load || self.waits
+    }
 }
 
 /// A text, and what was left out of it.
@@ -48,6 +62,9 @@ pub struct Imported {
     pub waits: Option<String>,
     pub tally: Tally,
     pub cpus: ToldCpus,
+    /// Which time the load and the waits tell, if either is wanted; and how many waits go beyond it.
+    pub time: Option<ToldTime>,
+    pub waits_cut: u64,
     pub threads: u32,
     /// How many commands the script has, but for the first, or would have if it is not wanted; and how many of them
     /// are moves of a thread to another queue.
@@ -63,13 +80,13 @@ pub struct Imported {
 /// The load of the lives.
 fn load_of(
     alloc: Global,
-    cpus: u8,
     lives: &Lives,
     recording: &Recording,
+    wanted: &Wanted,
 ) -> Result<MadeText, ImportFault>
     ensures { IfOk result (λ made. SpellsLoad (parse_document (string_bytes made.text))) }
 {
-    let (text, left_out) = load_text(alloc, cpus, lives, recording)?;
+    let (text, left_out) = load_text(alloc, lives, recording, wanted)?;
     let text = accepted_load(alloc, text)?;
     Ok(MadeText { text, left_out })
 }
@@ -106,25 +123,33 @@ pub fn import(
 {
     let cpus = wanted.cpus;
     let count = cpus.count();
-    let asker = Asker::new(alloc, count, wanted.script, wanted.times)?;
+    let first = first_time(recording);
+    let (window, time) = Window::of(recording, cpus, wanted.time, first);
+    let histories = Histories::new(
+        alloc,
+        wanted.settings.then_some(Window::all(first)),
+        wanted.has_window().then_some(window),
+    );
+    let asker = Asker::new(alloc, count, wanted.script, wanted.times, histories)?;
     let mut translator = Translator::new(alloc, recording, cpus, wanted.kernel_threads, asker)?;
     translator.follow()?;
     let Translator { asker, tally, .. } = translator;
-    let lives = &asker.lives;
-    let load = match wanted.load {
-        true => Some(load_of(alloc, count, lives, recording)?),
-        false => None,
+    let histories = &asker.histories;
+    let load = match histories.in_window() {
+        Some(lives) if wanted.load => Some(load_of(alloc, lives, recording, wanted)?),
+        _ => None,
     };
-    let settings = match wanted.settings {
-        true => Some(settings_of(alloc, count, lives, recording)?),
-        false => None,
+    let settings = match histories.whole() {
+        Some(lives) => Some(settings_of(alloc, count, lives, recording)?),
+        None => None,
     };
-    let waits = match wanted.waits {
-        true => Some(waits_text(alloc, lives, asker.tick)?),
-        false => None,
+    let waits = match histories.in_window() {
+        Some(lives) if wanted.waits => Some(waits_text(alloc, lives, asker.tick)?),
+        _ => None,
     };
     let script = asker.script(alloc)?;
-    let (runs, ticks) = lives.ran();
+    let (runs, ticks) = histories.ran();
+    let waits_cut = histories.in_window().map_or(0, Lives::cut);
     let threads = asker.kernel().threads();
     let Asker {
         asked,
@@ -139,6 +164,8 @@ pub fn import(
         waits,
         tally,
         cpus,
+        time: wanted.has_window().then_some(time),
+        waits_cut,
         threads,
         commands: asked,
         moves,

@@ -4,6 +4,7 @@ use crate::asker::{Asked, Refused};
 use crate::importing::Imported;
 use crate::tally::{Insertion, Omission};
 use crate::texts::{LeftOut, Plain};
+use crate::window::ToldTime;
 use pc_calls::Reply;
 use pc_recording::{Passed, Recording};
 use pc_script::{Command, Response, first_word};
@@ -232,6 +233,26 @@ fn write_changed<W: Write>(alloc: Global, imported: &Imported, writer: &mut W) -
     counts.write("put in", " that were not recorded", writer)
 }
 
+/// Tells which time a load and waits tell, where that is not all.
+fn write_time<W: Write>(imported: &Imported, writer: &mut W) -> io::Result<()> {
+    match imported.time {
+        None | Some(ToldTime::All) => Ok(()),
+        Some(ToldTime::AllForWant) => {
+            writeln!(
+                writer,
+                "pc-sim: loads and waits tell all time: there is none in which all CPUs are recorded"
+            )
+        }
+        Some(ToldTime::Between(first, last)) => {
+            let cut = imported.waits_cut;
+            writeln!(
+                writer,
+                "pc-sim: loads and waits tell microseconds {first} to {last}, and cut {cut} waits"
+            )
+        }
+    }
+}
+
 /// Writes what is told of an import, line by line.
 pub fn write_report<W: Write>(
     alloc: Global,
@@ -244,6 +265,7 @@ pub fn write_report<W: Write>(
     if first > 0 {
         writeln!(writer, "pc-sim: CPU {first} of the recording is CPU 0")?;
     }
+    write_time(imported, writer)?;
     write_changed(alloc, imported, writer)?;
     write_left_out(alloc, recording, imported, writer)?;
     if let Some(made) = &imported.settings {

@@ -1,10 +1,11 @@
 //! The script of what a world was asked, line by line.
 
 ghost use Rattle.std.specs.Prelude.{◌≡◌, ◌++◌, ℕ, List, [], codes, OnErr, OnOk, IfOk};
-ghost use Rattle.pc_import.specs.Scripts.{AreLines, IsLine, IsScript, event_line, head_text, limits_line, naming_line};
-ghost use Rattle.pc_import.specs.Scripts.{shown_byte, shown_name, tick_line, unrecorded_line};
+ghost use Rattle.pc_import.specs.Scripts.{AreLines, IsLine, IsScript, edge_line, event_line, head_text, limits_line};
+ghost use Rattle.pc_import.specs.Scripts.{naming_line, shown_byte, shown_name, tick_line, unrecorded_line};
 ghost use Rattle.pc_import.specs.declared.script.Unrecorded.{Unrecorded};
 
+use crate::window::Edge;
 use pc_calls::{Event, Limits};
 use pc_messages::{Cpu, Tid};
 use pc_script::Command;
@@ -64,6 +65,20 @@ fn write_unrecorded(text: &mut Vec<u8>, what: &Unrecorded) -> Result<(), AllocEr
         Unrecorded::Coming(thread, cpu) => write_coming(text, *thread, *cpu),
         Unrecorded::Leaving(thread, cpu) => write_leaving(text, *thread, *cpu),
         Unrecorded::Waking(thread) => write_waking(text, *thread),
+    }
+}
+
+/// Adds a comment that tells from where on, or up to where, a CPU is recorded, and a line feed.
+fn write_edge(text: &mut Vec<u8>, edge: Edge) -> Result<(), AllocError>
+    ensures { OnOk result (text.new.items ≡ text.old.items ++ edge_line edge) }
+{
+    let written = match edge {
+        Edge::From(Cpu(cpu)) => write!(text, "# CPU {cpu} is recorded from here\n"),
+        Edge::UpTo(Cpu(cpu)) => write!(text, "# CPU {cpu} is recorded up to here\n"),
+    };
+    match written {
+        Ok(()) => Ok(()),
+        Err(_) => Err(AllocError),
     }
 }
 
@@ -160,6 +175,17 @@ impl ScriptLines {
         ensures { OnOk result (self.new ≡ self.old ++ unrecorded_line what.now) }
     {
         if write_unrecorded(&mut self.text, what).is_err() {
+            self.text.clear();
+            return Err(AllocError);
+        }
+        Ok(())
+    }
+
+    /// Adds a comment that tells from where on, or up to where, a CPU is recorded.
+    pub(crate) fn push_edge(&mut self, edge: Edge) -> Result<(), AllocError>
+        ensures { OnOk result (self.new ≡ self.old ++ edge_line edge) }
+    {
+        if write_edge(&mut self.text, edge).is_err() {
             self.text.clear();
             return Err(AllocError);
         }

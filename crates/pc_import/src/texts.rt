@@ -1,6 +1,8 @@
 //! The load, the settings and the waits of a recording, as texts.
 
-use crate::lives::{Life, Lives};
+use crate::importing::Wanted;
+use crate::levels::LevelTable;
+use crate::lives::{Life, Lives, Sleep};
 use pc_calls::{Leaving, Left};
 use pc_recording::Recording;
 use std::alloc::{AllocError, Global};
@@ -83,16 +85,16 @@ impl fmt::Display for Steps<'_> {
 /// The longest time that a load may tell, in microseconds.
 const LONGEST: u64 = u32::MAX as u64;
 
-/// A list of times.
+/// How long a thread sleeps, each time.
 #[derive(Clone, Copy)]
-struct Numbers<'a>(&'a [u64]);
+struct Lengths<'a>(&'a [Sleep]);
 
-impl fmt::Display for Numbers<'_> {
+impl fmt::Display for Lengths<'_> {
     fn fmt<W: fmt::Write>(&self, f: &mut fmt::Formatter<W>) -> fmt::Result {
-        for (place, number) in self.0.iter().enumerate() {
+        for (place, sleep) in self.0.iter().enumerate() {
             let before = if place == 0 { "" } else { ", " };
-            let number = (*number).min(LONGEST);
-            write!(f, "{before}{number}")?;
+            let length = sleep.ticks.min(LONGEST);
+            write!(f, "{before}{length}")?;
         }
         Ok(())
     }
@@ -174,17 +176,23 @@ struct Text {
 }
 
 impl Text {
-    fn new(alloc: Global, cpus: u8, most: Most) -> Result<Text, AllocError> {
+    /// The keys of all threads: how many CPUs there are, and the tick of the end, if there is one.
+    fn new(alloc: Global, cpus: u8, until: Option<u64>, most: Most) -> Result<Text, AllocError> {
         let mut text = String::new(alloc);
-        match writeln!(text, "cpus = {cpus}") {
-            Ok(()) => Ok(Text {
-                text,
-                threads: 0,
-                most,
-                left_out: LeftOut::NONE,
-            }),
-            Err(_) => Err(AllocError),
+        if writeln!(text, "cpus = {cpus}").is_err() {
+            return Err(AllocError);
         }
+        if let Some(until) = until {
+            if writeln!(text, "until = {until}").is_err() {
+                return Err(AllocError);
+            }
+        }
+        Ok(Text {
+            text,
+            threads: 0,
+            most,
+            left_out: LeftOut::NONE,
+        })
     }
 
     /// Adds a table, if there is room for it.
@@ -205,6 +213,7 @@ fn put_in_load(
     life: &Life,
     title: &Title<'_>,
     cpus: u8,
+    level: Option<u8>,
     left_out: &mut LeftOut,
     table: &mut String,
 ) -> fmt::Result {
@@ -228,15 +237,21 @@ fn put_in_load(
         0
     };
     let start = life.start.unwrap_or(0);
-    let long = sleeps.iter().filter(|sleep| **sleep > LONGEST).count() as u64;
+    let long = sleeps
+        .iter()
+        .filter(|sleep| sleep.ticks > LONGEST)
+        .count() as u64;
     let late = u64::from(start > LONGEST);
     left_out.long = left_out.long.saturating_add(long).saturating_add(late);
-    let (numbers, start) = (Numbers(sleeps), start.min(LONGEST));
+    let (lengths, start) = (Lengths(sleeps), start.min(LONGEST));
     write!(
         table,
         "\n{title}\n[[thread]]\nqueue = {queue}\nmask = {mask}\nstart = {start}\n"
     )?;
-    write!(table, "steps = [{steps}]\nsleeps = [{numbers}]\n")?;
+    if let Some(level) = level {
+        write!(table, "level = {level}\n")?;
+    }
+    write!(table, "steps = [{steps}]\nsleeps = [{lengths}]\n")?;
     Ok(())
 }
 
@@ -286,16 +301,30 @@ fn by_start<'a>(alloc: Global, lives: &'a Lives) -> Result<Vec<(usize, &'a Life)
     Ok(ran)
 }
 
-/// A load for the lab, and what is left out of it: each thread with all its runs, on all CPUs. Who did not end does so
-/// in its last run.
+/// Whether these threads have not all one level.
+fn has_levels(lives: &[(usize, &Life)], recording: &Recording, levels: &LevelTable) -> bool {
+    let mut first = None;
+    for (_, life) in lives {
+        let level = levels.level(recording.priority(life.task));
+        if level != *first.get_or_insert(level) {
+            return true;
+        }
+    }
+    false
+}
+
+/// A load for the lab, and what is left out of it: each thread with all its runs in the window, on all CPUs. Who did not
+/// end there does so in its last run.
 pub(crate) fn load_text(
     alloc: Global,
-    cpus: u8,
     lives: &Lives,
     recording: &Recording,
+    wanted: &Wanted,
 ) -> Result<(String, LeftOut), AllocError> {
-    let mut text = Text::new(alloc, cpus, LOAD)?;
+    let cpus = wanted.cpus.count();
+    let mut text = Text::new(alloc, cpus, lives.window.until(), LOAD)?;
     let ran = by_start(alloc, lives)?;
+    let has_levels = has_levels(ran.as_slice(), recording, &wanted.levels);
     text.left_out.idle = lives.lives.len().saturating_sub(ran.len()) as u64;
     for (place, life) in &ran {
         let name = recording.name(life.task).unwrap_or(b"");
@@ -303,8 +332,9 @@ pub(crate) fn load_text(
             place: *place,
             name,
         };
+        let level = has_levels.then_some(wanted.levels.level(recording.priority(life.task)));
         let mut table = String::new(alloc);
-        if put_in_load(life, &title, cpus, &mut text.left_out, &mut table).is_err() {
+        if put_in_load(life, &title, cpus, level, &mut text.left_out, &mut table).is_err() {
             return Err(AllocError);
         }
         text.add(table.as_str())?;
@@ -319,7 +349,7 @@ pub(crate) fn settings_text(
     lives: &Lives,
     recording: &Recording,
 ) -> Result<(String, LeftOut), AllocError> {
-    let mut text = Text::new(alloc, cpus, SETTINGS)?;
+    let mut text = Text::new(alloc, cpus, None, SETTINGS)?;
     for (place, life) in lives.lives.iter().enumerate() {
         if life.runs.is_empty() {
             text.left_out.idle = text.left_out.idle.saturating_add(1);

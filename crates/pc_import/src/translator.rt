@@ -5,6 +5,7 @@ use crate::cpus::ToldCpus;
 use crate::facts::{Fact, Facts};
 use crate::script::Unrecorded;
 use crate::tally::{Insertion, Omission, Tally};
+use crate::window::{Edge, edges_of, first_time, ticks};
 use pc_calls::{Leaving, Left};
 use pc_messages::{Cpu, Phase, Tid};
 use pc_recording::{EventKind, LeavingState, RecordedEvent, Recording, Task};
@@ -41,11 +42,9 @@ pub(crate) struct Translator<'r> {
     heard: Vec<bool>,
     known: Vec<Known>,
     begin: u64,
-}
-
-/// The tick of a nanosecond behind another.
-fn ticks(from: u64, to: u64) -> u64 {
-    to.saturating_sub(from) / 1_000
+    /// Where CPUs begin and end to be recorded, in order, and how many of these were told.
+    edges: Vec<(u64, Edge)>,
+    edges_told: usize,
 }
 
 /// How a thread leaves its CPU in this state.
@@ -76,7 +75,9 @@ impl<'r> Translator<'r> {
             since: Vec::new(alloc),
             heard: Vec::new(alloc),
             known: Vec::new(alloc),
-            begin: recording.events().next().map_or(0, |event| event.time),
+            begin: first_time(recording),
+            edges: edges_of(alloc, recording, cpus)?,
+            edges_told: 0,
         };
         for _ in 0..cpus.count() {
             translator.since.push(0)?;
@@ -96,6 +97,8 @@ impl<'r> Translator<'r> {
             if self.asker.close_if_full() && !matches!(event.kind, EventKind::Runs { .. }) {
                 self.tally.omit(Omission::PastScript);
             }
+            self.tell_edges(event.time)?;
+            self.asker.time = event.time;
             self.asker.tick = ticks(self.begin, event.time);
             self.take(place, &event)?;
             place = place.saturating_add(1);
@@ -104,11 +107,27 @@ impl<'r> Translator<'r> {
         self.end(last)
     }
 
+    /// Tells where CPUs began and ended to be recorded before a time.
+    fn tell_edges(&mut self, time: u64) -> Result<(), AllocError> {
+        while let Some((at, edge)) = self.edges.get(self.edges_told) {
+            if !edge.is_before(*at, time) {
+                return Ok(());
+            }
+            self.asker.tell_edge(ticks(self.begin, *at), *edge)?;
+            self.edges_told = self.edges_told.saturating_add(1);
+        }
+        Ok(())
+    }
+
     fn take(&mut self, place: usize, event: &RecordedEvent) -> Result<(), AllocError> {
         match event.kind {
             EventKind::Runs { task } => self.runs(event, task),
             EventKind::Switch { from, state, to } => self.switch(place, event, from, state, to),
-            EventKind::Waking { task, target, .. } => self.wake(place, task, target),
+            EventKind::Waking {
+                task,
+                waker,
+                target,
+            } => self.wake(place, task, waker, target),
             EventKind::NewWaking { task, target, .. } => self.wake_new(task, target),
             EventKind::Fork { child, .. } => self.fork(event, child),
             EventKind::Move { task, from, to } => self.moves(task, from, to),
@@ -126,11 +145,10 @@ impl<'r> Translator<'r> {
                     leaving: Leaving::Die,
                     ran: self.ran(cpu, time),
                 };
-                let tick = self.asker.tick;
-                self.asker.lives.left(thread, left, tick)?;
+                self.asker.histories.left(thread, left, time)?;
             }
         }
-        Ok(())
+        self.asker.histories.end()
     }
 
     /// The CPU that the recording has under this number; of none that is told, which is counted.
@@ -249,12 +267,31 @@ impl<'r> Translator<'r> {
         Ok(())
     }
 
-    fn wake(&mut self, place: usize, task: Task, target: u16) -> Result<(), AllocError> {
+    /// The thread of a task, if it has one that is alive.
+    fn alive(&self, task: Option<Task>) -> Option<Tid> {
+        match self.state(task?) {
+            Known::Alive(thread) => Some(thread),
+            Known::Unseen | Known::Dead => None,
+        }
+    }
+
+    fn wake(
+        &mut self,
+        place: usize,
+        task: Task,
+        waker: Option<Task>,
+        target: u16,
+    ) -> Result<(), AllocError> {
         if !self.is_told(task, Omission::KernelWaking) {
             return Ok(());
         }
+        let waker = self.alive(waker);
         if self.facts.at(place) == Fact::EarlyWaking {
             self.tally.written_later = self.tally.written_later.saturating_add(1);
+            if let Some(thread) = self.alive(Some(task)) {
+                let time = self.asker.time;
+                self.asker.histories.woke_early(thread, waker, time);
+            }
             return Ok(());
         }
         match self.state(task) {
@@ -262,10 +299,10 @@ impl<'r> Translator<'r> {
                 self.tally.omit(Omission::WakingOfDead);
                 Ok(())
             }
-            Known::Alive(thread) => self.wake_thread(thread),
+            Known::Alive(thread) => self.wake_thread(thread, waker),
             Known::Unseen => match self.cpu_or_other(target) {
                 Some(queue) => match self.thread(task, queue, false)? {
-                    Some(thread) => self.wake_thread(thread),
+                    Some(thread) => self.wake_thread(thread, waker),
                     None => Ok(()),
                 },
                 None => Ok(()),
@@ -273,9 +310,9 @@ impl<'r> Translator<'r> {
         }
     }
 
-    fn wake_thread(&mut self, thread: Tid) -> Result<(), AllocError> {
+    fn wake_thread(&mut self, thread: Tid, waker: Option<Tid>) -> Result<(), AllocError> {
         if self.asker.phase(thread) == Some(Phase::Blocked) {
-            return self.asker.wake(thread);
+            return self.asker.wake(thread, waker);
         }
         let what = match self.asker.cpu_of(thread) {
             Some(_) => Omission::WakingOfRunning,
@@ -298,7 +335,7 @@ impl<'r> Translator<'r> {
                 if self.asker.kernel().queue_of(thread) != Some(queue) {
                     self.asker.associate(thread, queue)?;
                 }
-                self.wake_thread(thread)
+                self.wake_thread(thread, None)
             }
             None => Ok(()),
         }
@@ -365,7 +402,7 @@ impl<'r> Translator<'r> {
         }
         if self.asker.phase(thread) == Some(Phase::Blocked) {
             self.put_in(Insertion::Waking, &Unrecorded::Waking(thread))?;
-            self.asker.wake(thread)?;
+            self.asker.wake(thread, None)?;
         }
         self.bring(cpu, thread)?;
         self.asker.commit(cpu, thread)?;
@@ -418,7 +455,7 @@ impl<'r> Translator<'r> {
         if leaving == Leaving::Die {
             self.put_state(task, Known::Dead);
         } else if fact == Fact::UndoneWait {
-            self.asker.wake(thread)?;
+            self.asker.wake(thread, None)?;
         }
         Ok(())
     }

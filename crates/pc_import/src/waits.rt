@@ -102,20 +102,21 @@ fn push_waits<'a>(head: &'a str, waits: &Waits, rows: &mut Vec<Row<'a>>) -> Resu
     Ok(())
 }
 
-/// The recorded numbers, by the names that a lab's table has for them.
+/// The recorded numbers, by the names that a lab's table has for them; and how many waits the window cuts, if it has an
+/// end. Without one the last event is at this tick.
 pub(crate) fn waits_text(
     alloc: Global,
     lives: &Lives,
-    makespan: u64,
+    last: u64,
 ) -> Result<String, AllocError> {
     let all = Waits::of(alloc, lives, false)?;
     let woken = Waits::of(alloc, lives, true)?;
-    let (_, ticks) = lives.ran();
+    let until = lives.window.until();
     let mut rows = Vec::new(alloc);
     rows.push(Row {
         head: "",
         name: "makespan",
-        number: Some(makespan),
+        number: Some(until.unwrap_or(last)),
     })?;
     rows.push(Row {
         head: "",
@@ -124,10 +125,17 @@ pub(crate) fn waits_text(
     })?;
     push_waits("wait ", &all, &mut rows)?;
     push_waits("woken ", &woken, &mut rows)?;
+    if until.is_some() {
+        rows.push(Row {
+            head: "",
+            name: "waits cut",
+            number: Some(lives.cut()),
+        })?;
+    }
     rows.push(Row {
         head: "",
         name: "ticks ran",
-        number: Some(ticks),
+        number: Some(lives.ran()),
     })?;
     let mut text = String::new(alloc);
     match write_rows(alloc, rows.as_slice(), &mut text) {

@@ -22,6 +22,7 @@ use Rattle.pc_program.specs.declared.command_line.ProgramCommand.{ProgramCommand
 use Rattle.pc_program.specs.declared.command_line.ProgramCommand.TheVariants.{Replay, Explain, Draw, Run, Tally}
 use Rattle.pc_program.specs.declared.command_line.ProgramCommand.TheVariants.{Session, Lab, Import}
 use Rattle.pc_program.specs.declared.command_line.ImportFiles.{ImportFiles}
+use Rattle.pc_program.specs.declared.command_line.ImportLoad.{ImportLoad}
 use Rattle.pc_program.specs.declared.command_line.VariantsFrom.{VariantsFrom}
 use Rattle.pc_program.specs.declared.command_line.VariantsFrom.TheVariants as from
 use Rattle.pc_program.specs.declared.command_line.CommandFault.{CommandFault}
@@ -106,10 +107,14 @@ abbrev pub most : Rule
 most = record (option (codes "limit")) { parser = Some (Unsigned 0 18446744073709551615) }
 
 -- import [FILE] [--script FILE] [--load FILE] [--settings FILE] [--waits FILE] [--times] [--kernel-threads]
--- [--cpus NUMBERS] [--limit NUMBER]
+-- [--cpus NUMBERS] [--window NUMBERS] [--all] [--group-by GROUPS] [--levels LEVELS] [--limit NUMBER]
 abbrev pub importing : App
 importing =
     with_rule
+    (with_rule
+    (with_rule
+    (with_rule
+    (with_rule
     (with_rule
     (with_rule
     (with_rule
@@ -121,6 +126,10 @@ importing =
     (flag (codes "times")))
     (flag (codes "kernel-threads")))
     (option (codes "cpus")))
+    (option (codes "window")))
+    (flag (codes "all")))
+    (option (codes "group-by")))
+    (option (codes "levels")))
     most
 
 -- the program without a command, which has a version, wants a command, and has no command `help`
@@ -251,7 +260,7 @@ NamesNone text = (policy : PolicyName) → names.IsPolicy text policy → ⊥
 abbrev pub TakesNumbers : (command option : Text) → Type 0
 TakesNumbers command option =
     ((command ≡ codes "draw") × ((option ≡ codes "cpus") ⊎ (option ≡ codes "lines")))
-    ⊎ ((command ≡ codes "import") × (option ≡ codes "cpus"))
+    ⊎ ((command ≡ codes "import") × ((option ≡ codes "cpus") ⊎ (option ≡ codes "window")))
 
 -- the fault of numbers: memory was wanting, or the word behind this option spells none
 abbrev pub AreNoNumbers : (option : Text) → List Row → CommandFault → Type 0
@@ -261,8 +270,8 @@ AreNoNumbers option rows (BadPolicy word why) = ⊥
 AreNoNumbers option rows (BadRuns why) = ⊥
 AreNoNumbers option rows (Clap error) = ⊥
 
--- what is wrong with the words of a command that clap takes: a part of a picture or CPUs of a recording that are no
--- numbers, a policy of a run that is none, or several runs that cannot be asked for so
+-- what is wrong with the words of a command that clap takes: a part of a picture or of a recording that is no numbers,
+-- a policy of a run that is none, or several runs that cannot be asked for so
 abbrev pub IsWrongIn : Option (Text × List Row) → CommandFault → Type 0
 IsWrongIn met OutOfMemory = Unit {0}
 IsWrongIn met (Clap error) = Unit {0}
@@ -291,6 +300,13 @@ AreFiles rows files =
     × (option_map string_bytes files.settings ≡ first_of (codes "settings") rows)
     × (option_map string_bytes files.waits ≡ first_of (codes "waits") rows)
 
+-- what loads and waits tell is chosen behind options
+abbrev pub AreTold : List Row → ImportLoad → Type 0
+AreTold rows told =
+    IsSpelled (first_of (codes "window") rows) told.window × (IsTrue told.all ↔ IsSet (codes "all") rows)
+    × (option_map string_bytes told.groups ≡ first_of (codes "group-by") rows)
+    × (option_map string_bytes told.levels ≡ first_of (codes "levels") rows)
+
 -- the greatest number that an option's word spells, if it spells one
 abbrev pub IsMost : Option Text → Option ℕ → Type 0
 IsMost word given = IsNumber 64 word given
@@ -318,8 +334,8 @@ IsAsked (Some met) (Lab given variants each csv picture script) =
     × (IsTrue each ↔ IsSet (codes "per-cpu") met.1) × (IsTrue csv ↔ IsSet (codes "csv") met.1)
     × (IsTrue picture ↔ IsSet (codes "picture") met.1)
     × (option_map string_bytes script ≡ first_of (codes "script") met.1)
-IsAsked (Some met) (Import given files times kernel_threads cpus limit) =
-    IsOf (codes "import") (option_map string_bytes given) met × AreFiles met.1 files
+IsAsked (Some met) (Import given files told times kernel_threads cpus limit) =
+    IsOf (codes "import") (option_map string_bytes given) met × AreFiles met.1 files × AreTold met.1 told
     × (IsTrue times ↔ IsSet (codes "times") met.1) × (IsTrue kernel_threads ↔ IsSet (codes "kernel-threads") met.1)
     × IsSpelled (first_of (codes "cpus") met.1) cpus × IsMost (one_of (codes "limit") met.1) limit
 

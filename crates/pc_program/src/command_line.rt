@@ -94,6 +94,8 @@ pub enum ProgramCommand {
         file: Option<String>,
         /// Into which files they are written.
         files: ImportFiles,
+        /// What a load and waits tell.
+        told: ImportLoad,
         /// Whether the script tells the time.
         times: bool,
         /// Whether the kernel's own threads are told, too.
@@ -112,6 +114,18 @@ pub struct ImportFiles {
     pub load: Option<String>,
     pub settings: Option<String>,
     pub waits: Option<String>,
+}
+
+/// What of a recording a load and waits tell (own).
+#[derive(Debug, Drop)]
+pub struct ImportLoad {
+    /// Which microseconds behind the first event, both included.
+    pub window: Option<Interval>,
+    /// Whether all time is told, and not that alone in which all CPUs are recorded.
+    pub all: bool,
+    /// By what threads are groups, and which levels they have: a text each, as they stand.
+    pub groups: Option<String>,
+    pub levels: Option<String>,
 }
 
 /// Where the variants of a load come from (own).
@@ -383,10 +397,13 @@ fn import_of(
     ensures wrong { IfErr result (IsWrongIn (Some (codes "import", rows_of (found_of met.now)))) }
 {
     let cpus = numbers_of(alloc, met, "cpus")?;
+    let window = numbers_of(alloc, met, "window")?;
     let files = files_of(alloc, met)?;
+    let told = told_of(alloc, window, met)?;
     Ok(ProgramCommand::Import {
         file,
         files,
+        told,
         times: is_set(met, "times"),
         kernel_threads: is_set(met, "kernel-threads"),
         cpus,
@@ -407,6 +424,25 @@ fn files_of(alloc: Global, met: &ArgMatches<'_>) -> Result<ImportFiles, AllocErr
         load,
         settings,
         waits,
+    })
+}
+
+/// What a load tells, in this window.
+fn told_of(
+    alloc: Global,
+    window: Option<Interval>,
+    met: &ArgMatches<'_>,
+) -> Result<ImportLoad, AllocError>
+    requires { IsSpelled (first_of (codes "window") (rows_of (found_of met.now))) window }
+    ensures { IfOk result (AreTold (rows_of (found_of met.now))) }
+{
+    let groups = name_behind(alloc, met, "group-by")?;
+    let levels = name_behind(alloc, met, "levels")?;
+    Ok(ImportLoad {
+        window,
+        all: is_set(met, "all"),
+        groups,
+        levels,
     })
 }
 

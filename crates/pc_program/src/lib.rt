@@ -28,7 +28,7 @@ mod talk;
 mod tally;
 
 pub use command_line::{
-    CommandFault, ImportFiles, ProgramCommand, RunsFault, VariantsFrom, read_command,
+    CommandFault, ImportFiles, ImportLoad, ProgramCommand, RunsFault, VariantsFrom, read_command,
 };
 pub use command_trouble::write_command_trouble;
 pub use ending::{BadSettings, Ending, Failure, Unsettled};

@@ -7,7 +7,7 @@ ghost use Rattle.std.specs.Prelude.{◌<◌, ◌≤◌, IfSome, length};
 
 use crate::event::LeavingState;
 use crate::texts::{
-    before_signed, before_white, count, digits_at_end, digits_in_front, is_all_white, last_place,
+    before_white, count, digits_at_end, digits_in_front, is_all_white, last_place, signed_at_end,
 };
 use memchr::memchr;
 
@@ -16,6 +16,8 @@ use memchr::memchr;
 pub(crate) struct Named<'a> {
     pub(crate) pid: u32,
     pub(crate) comm: &'a [u8],
+    /// As the kernel counts it: the lower, the more urgent. None where it is not told, or does not fit.
+    pub(crate) priority: Option<i16>,
 }
 
 /// What an event tells.
@@ -68,6 +70,7 @@ enum Form {
 struct Leaving<'a> {
     comm: &'a [u8],
     pid: &'a [u8],
+    priority: Option<i16>,
     state: &'a [u8],
 }
 
@@ -84,7 +87,13 @@ impl<'a> Named<'a> {
         Some(Named {
             pid: count(pid)?,
             comm,
+            priority: None,
         })
+    }
+
+    /// The thread with its priority.
+    fn with(self, priority: Option<i16>) -> Named<'a> {
+        Named { priority, ..self }
     }
 }
 
@@ -139,9 +148,10 @@ fn digits_behind<'a>(text: &'a [u8], word: &[u8]) -> Option<(&'a [u8], &'a [u8])
     Some((front.strip_suffix(word)?, digits))
 }
 
-/// The text in front of this word and of a number, which may be negative, at the end.
-fn before_priority<'a>(text: &'a [u8], word: &[u8]) -> Option<&'a [u8]> {
-    before_signed(text)?.strip_suffix(word)
+/// The priority at the end of a text, behind this word and the text in front of it.
+fn priority_behind<'a>(text: &'a [u8], word: &[u8]) -> Option<(&'a [u8], Option<i16>)> {
+    let (front, priority) = signed_at_end(text)?;
+    Some((front.strip_suffix(word)?, priority.small()))
 }
 
 /// The letters of a state at the end of a text, behind the text in front of them.
@@ -162,19 +172,29 @@ fn state_at_end(text: &[u8]) -> Option<(&[u8], &[u8])> {
 /// The thread that leaves, as the text in front of an arrow tells it.
 fn leaving_of(text: &[u8], form: Form) -> Option<Leaving<'_>> {
     let (text, state) = state_at_end(text)?;
-    let (comm, pid) = match form {
+    let (text, priority) = match form {
         Form::Full => {
             let text = text.strip_suffix(b" prev_state=".as_slice())?;
-            let text = before_priority(text, b" prev_prio=".as_slice())?;
-            digits_behind(text, b" prev_pid=".as_slice())?
+            priority_behind(text, b" prev_prio=".as_slice())?
         }
         Form::Short => {
             let text = text.strip_suffix(b"] ".as_slice())?;
-            let text = before_priority(text, b" [".as_slice())?;
-            digits_behind(text, b":".as_slice())?
+            priority_behind(text, b" [".as_slice())?
         }
     };
-    Some(Leaving { comm, pid, state })
+    let (comm, pid) = digits_behind(
+        text,
+        match form {
+            Form::Full => b" prev_pid=".as_slice(),
+            Form::Short => b":".as_slice(),
+        },
+    )?;
+    Some(Leaving {
+        comm,
+        pid,
+        priority,
+        state,
+    })
 }
 
 /// The thread that leaves, and the name of the one that comes, if the arrow between them ends at this place.
@@ -203,23 +223,28 @@ fn last_switch(text: &[u8], form: Form) -> Option<(Leaving<'_>, &[u8])> {
 /// A switch in this form.
 fn switch_in(text: &[u8], form: Form) -> Option<Body<'_>> {
     let text = before_white(text);
-    let (text, to) = match form {
+    let (text, priority) = match form {
         Form::Full => {
             let text = text.strip_prefix(b"prev_comm=".as_slice())?;
-            let text = before_priority(text, b" next_prio=".as_slice())?;
-            digits_behind(text, b" next_pid=".as_slice())?
+            priority_behind(text, b" next_prio=".as_slice())?
         }
         Form::Short => {
             let text = text.strip_suffix(b"]".as_slice())?;
-            let text = before_priority(text, b" [".as_slice())?;
-            digits_behind(text, b":".as_slice())?
+            priority_behind(text, b" [".as_slice())?
         }
     };
+    let (text, to) = digits_behind(
+        text,
+        match form {
+            Form::Full => b" next_pid=".as_slice(),
+            Form::Short => b":".as_slice(),
+        },
+    )?;
     let (leaving, comm) = last_switch(text, form)?;
     Some(Body::Switch {
-        from: Named::of(leaving.comm, leaving.pid)?,
+        from: Named::of(leaving.comm, leaving.pid)?.with(leaving.priority),
         state: LeavingState::named(leaving.state),
-        to: Named::of(comm, to)?,
+        to: Named::of(comm, to)?.with(priority),
     })
 }
 
@@ -234,23 +259,23 @@ fn without_success(text: &[u8]) -> &[u8] {
 /// The thread that is woken, and the digits of the CPU where it goes, in this form.
 fn woken_in(text: &[u8], form: Form) -> Option<(Named<'_>, &[u8])> {
     let text = before_white(text);
-    let (comm, pid, target) = match form {
+    let (comm, pid, priority, target) = match form {
         Form::Full => {
             let text = text.strip_prefix(b"comm=".as_slice())?;
             let (text, target) = digits_behind(text, b" target_cpu=".as_slice())?;
-            let text = before_priority(without_success(text), b" prio=".as_slice())?;
+            let (text, priority) = priority_behind(without_success(text), b" prio=".as_slice())?;
             let (comm, pid) = digits_behind(text, b" pid=".as_slice())?;
-            (comm, pid, target)
+            (comm, pid, priority, target)
         }
         Form::Short => {
             let (text, target) = digits_behind(text, b" CPU:".as_slice())?;
             let text = without_success(text).strip_suffix(b"]".as_slice())?;
-            let text = before_priority(text, b" [".as_slice())?;
+            let (text, priority) = priority_behind(text, b" [".as_slice())?;
             let (comm, pid) = digits_behind(text, b":".as_slice())?;
-            (comm, pid, target)
+            (comm, pid, priority, target)
         }
     };
-    Some((Named::of(comm, pid)?, target))
+    Some((Named::of(comm, pid)?.with(priority), target))
 }
 
 /// A waking in one of its forms.
@@ -296,7 +321,7 @@ fn move_of(text: &[u8]) -> Option<Body<'_>> {
     let text = before_white(text).strip_prefix(b"comm=".as_slice())?;
     let (text, to) = digits_behind(text, b" dest_cpu=".as_slice())?;
     let (text, from) = digits_behind(text, b" orig_cpu=".as_slice())?;
-    let text = before_priority(text, b" prio=".as_slice())?;
+    let (text, _) = priority_behind(text, b" prio=".as_slice())?;
     let (comm, pid) = digits_behind(text, b" pid=".as_slice())?;
     Some(Body::Move {
         task: Named::of(comm, pid)?,

@@ -72,6 +72,14 @@ pub enum EventKind {
     },
 }
 
+/// When a CPU had its first event, and when its last, in nanoseconds by the clock of the recording. Of what happened
+/// before and behind nothing was recorded.
+#[derive(Clone, Copy, Debug, PartialEq, Eq)]
+pub struct Heard {
+    pub first: u64,
+    pub last: u64,
+}
+
 /// One event of a recording.
 #[derive(Clone, Copy, Debug, PartialEq, Eq)]
 pub struct RecordedEvent {

@@ -21,7 +21,7 @@ mod starts;
 mod tasks;
 mod texts;
 
-pub use event::{EventKind, LeavingState, RecordedEvent, Task};
+pub use event::{EventKind, Heard, LeavingState, RecordedEvent, Task};
 pub use fault::{LineStart, RecordingFault};
 pub use passed::{OtherKind, Passed};
 pub use recording::{Events, Recording};

@@ -6,7 +6,7 @@ ghost use Rattle.pc_recording.specs.declared.entry.TheConstants.{MOST_CPUS};
 
 use crate::body::{Body, Named, Wake};
 use crate::entry::{Entry, Kept, MOST_CPUS, Noted};
-use crate::event::{LeavingState, Task};
+use crate::event::{Heard, LeavingState, Task};
 use crate::line::{Told, ToldEvent};
 use crate::log::EventLog;
 use crate::passed::{OtherKinds, Passed, PassedCounts};
@@ -22,6 +22,8 @@ pub(crate) struct Recorder {
     other_kinds: OtherKinds,
     /// The thread on each CPU of which there was an event.
     on: Vec<Option<Task>>,
+    /// When each CPU had its first event and its last.
+    heard: Vec<Option<Heard>>,
     /// One more than the greatest CPU that is named.
     cpus: u16,
     /// How many events were read, those that are passed over too.
@@ -41,6 +43,7 @@ pub(crate) struct Contents {
     pub(crate) tasks: Tasks,
     pub(crate) passed: PassedCounts,
     pub(crate) other_kinds: OtherKinds,
+    pub(crate) heard: Vec<Option<Heard>>,
     pub(crate) cpus: u16,
     pub(crate) read: u64,
 }
@@ -80,6 +83,7 @@ impl Recorder {
             passed: PassedCounts::new(),
             other_kinds: OtherKinds::new(alloc),
             on: Vec::new(alloc),
+            heard: Vec::new(alloc),
             cpus: 0,
             read: 0,
             is_foreign: false,
@@ -114,6 +118,7 @@ impl Recorder {
             tasks: self.tasks,
             passed: self.passed,
             other_kinds: self.other_kinds,
+            heard: self.heard,
             cpus: self.cpus,
             read: self.read,
         }
@@ -147,6 +152,7 @@ impl Recorder {
                     time: event.moment.time,
                     cpu,
                 };
+                self.hear(place)?;
                 match event.body {
                     Body::Switch { from, state, to } => self.switch(place, event, from, state, to),
                     _ => self.take_other(place, event),
@@ -159,10 +165,27 @@ impl Recorder {
         }
     }
 
+    /// A CPU has an event.
+    fn hear(&mut self, place: Place) -> Result<(), AllocError> {
+        let index = usize::from(place.cpu);
+        if index >= self.heard.len() {
+            self.heard.resize(index + 1, None)?;
+        }
+        if let Some(heard) = self.heard.get_mut(index) {
+            let first = heard.map_or(place.time, |heard| heard.first);
+            *heard = Some(Heard {
+                first,
+                last: place.time,
+            });
+        }
+        Ok(())
+    }
+
     /// The thread that an event names, with its name.
     fn named(&mut self, named: Named<'_>, source: Source) -> Result<Task, AllocError> {
         let task = self.tasks.of_pid(named.pid)?;
         self.tasks.tell(task, named.comm, source);
+        self.tasks.tell_priority(task, named.priority);
         Ok(task)
     }
 

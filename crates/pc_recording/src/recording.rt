@@ -9,7 +9,7 @@ ghost use Rattle.pc_recording.specs.Shown.{event_shown, events_left, events_of, 
 
 use crate::body::Wake;
 use crate::entry::{Entry, Kept, Noted};
-use crate::event::{EventKind, RecordedEvent, Task};
+use crate::event::{EventKind, Heard, RecordedEvent, Task};
 use crate::fault::RecordingFault;
 use crate::log::is_left_out;
 use crate::passed::{OtherKind, OtherKinds, Passed, PassedCounts};
@@ -31,6 +31,7 @@ pub struct Recording {
     left_out: LeftOut,
     passed: PassedCounts,
     other_kinds: OtherKinds,
+    heard: Vec<Option<Heard>>,
     cpus: u16,
     read: u64,
 }
@@ -93,6 +94,17 @@ impl Recording {
         self.tasks.is_kernel(task, self.left_out)
     }
 
+    /// The last priority of a thread that a switch or a waking told, as the kernel counts: 0 to 99 for realtime, 100 to
+    /// 139 for the nice values from -20 to 19, and -1 for a deadline. None of one that none told.
+    pub fn priority(&self, task: Task) -> Option<i16> {
+        self.tasks.priority(task)
+    }
+
+    /// When a CPU had its first event and its last, those of other kinds too; none of one that had none.
+    pub fn heard(&self, cpu: u16) -> Option<Heard> {
+        self.heard.get(usize::from(cpu)).copied().flatten()
+    }
+
     /// How much of this was passed over.
     pub fn passed(&self, passed: Passed) -> u64 {
         self.passed.count(passed)
@@ -144,6 +156,7 @@ fn recording_of(alloc: Global, recorder: Recorder) -> Result<Recording, AllocErr
         tasks,
         passed,
         other_kinds,
+        heard,
         cpus,
         read,
     } = recorder.into_contents();
@@ -157,6 +170,7 @@ fn recording_of(alloc: Global, recorder: Recorder) -> Result<Recording, AllocErr
         left_out,
         passed,
         other_kinds,
+        heard,
         cpus,
         read,
     })

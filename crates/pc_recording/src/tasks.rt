@@ -34,6 +34,8 @@ struct Told {
 #[derive(Clone, Copy, Debug)]
 struct TaskRecord {
     pid: u32,
+    /// The last that a switch or a waking told.
+    priority: Option<i16>,
     /// Whether its state or its parent tells that it is one of the kernel's own.
     is_kernel: bool,
     by_head: Told,
@@ -86,6 +88,7 @@ impl TaskRecord {
         let nothing = Told::nothing();
         TaskRecord {
             pid,
+            priority: None,
             is_kernel: false,
             by_head: nothing,
             by_wakeup: nothing,
@@ -179,6 +182,18 @@ impl Tasks {
                 Source::Event => record.by_event.tell(name, order),
             }
         }
+    }
+
+    /// A thread has this priority, if one is told.
+    pub(crate) fn tell_priority(&mut self, task: Task, priority: Option<i16>) {
+        if let Some(record) = self.records.get_mut(task.0 as usize) {
+            record.priority = priority.or(record.priority);
+        }
+    }
+
+    /// The last priority of a thread.
+    pub(crate) fn priority(&self, task: Task) -> Option<i16> {
+        self.records.get(task.0 as usize)?.priority
     }
 
     /// A thread is one of the kernel's own.

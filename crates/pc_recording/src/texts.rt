@@ -4,6 +4,13 @@ ghost use Rattle.std.specs.Prelude.{◌<◌, IfSome, length};
 
 use memchr::memrchr;
 
+/// A number as it is written.
+#[derive(Clone, Copy)]
+pub(crate) struct Signed<'a> {
+    is_negative: bool,
+    digits: &'a [u8],
+}
+
 /// Whether a byte is one that separates words: a blank, a tab, or another of the ASCII signs that print nothing there.
 pub(crate) fn is_white(byte: u8) -> bool {
     matches!(byte, b' ' | b'\t'..=b'\r' | 0x1c..=0x1f)
@@ -86,12 +93,29 @@ pub(crate) fn digits_at_end(text: &[u8]) -> Option<(&[u8], &[u8])> {
     Some((front, digits))
 }
 
-/// The text in front of digits at the end, and of a minus sign before those if there is one.
-pub(crate) fn before_signed(text: &[u8]) -> Option<&[u8]> {
-    let (front, _) = digits_at_end(text)?;
-    match front {
-        [unsigned @ .., b'-'] => Some(unsigned),
-        _ => Some(front),
+/// The digits at the end of a text, behind a minus sign if there is one, and the text in front of them.
+pub(crate) fn signed_at_end(text: &[u8]) -> Option<(&[u8], Signed<'_>)> {
+    let (front, digits) = digits_at_end(text)?;
+    let (front, is_negative) = match front {
+        [unsigned @ .., b'-'] => (unsigned, true),
+        _ => (front, false),
+    };
+    let signed = Signed {
+        is_negative,
+        digits,
+    };
+    Some((front, signed))
+}
+
+impl Signed<'_> {
+    /// The number, where it is one of 16 bits.
+    pub(crate) fn small(&self) -> Option<i16> {
+        let value = i16::try_from(number(self.digits)?).ok()?;
+        if self.is_negative {
+            value.checked_neg()
+        } else {
+            Some(value)
+        }
     }
 }
 

@@ -6,9 +6,10 @@ use crate::files::{are_one, are_one_place, put_whole, write_whole};
 use crate::met::{Met, Source};
 use crate::streams::{Noted, Opening};
 use pc_import::{
-    CpuFault, CpuRange, ImportFault, Imported, ToldCpus, Wanted, import, write_report,
+    ChosenTime, CpuFault, CpuRange, ImportFault, Imported, LevelTable, LevelsFault, ToldCpus, Wanted,
+    import, write_report,
 };
-use pc_program::{Ending, Failure, ImportFiles, Interval};
+use pc_program::{Ending, Failure, ImportFiles, ImportLoad, Interval};
 use pc_recording::{Recording, RecordingFault};
 use std::io::{self, ErrorKind, Write};
 use std::process::ExitCode;
@@ -55,8 +56,31 @@ fn cpus_of(recording: &Recording, options: &ImportOptions) -> Result<ToldCpus, C
     ToldCpus::of(recording, chosen)
 }
 
-/// What is to be made, of these CPUs.
-fn wanted_of(files: &ImportFiles, options: &ImportOptions, cpus: ToldCpus) -> Wanted {
+/// Which time a load and waits are to tell.
+fn time_of(told: &ImportLoad) -> ChosenTime {
+    match told.window {
+        Some(Interval { first, last }) => ChosenTime::Between(first, last),
+        None if told.all => ChosenTime::All,
+        None => ChosenTime::Recorded,
+    }
+}
+
+/// The levels that threads of a load are to have.
+fn levels_of(rt: &HostRuntime, told: &ImportLoad) -> Result<LevelTable, LevelsFault> {
+    match &told.levels {
+        Some(text) => LevelTable::read(rt.alloc(), text.as_str()),
+        None => Ok(LevelTable::usual(rt.alloc())?),
+    }
+}
+
+/// What is to be made, of these CPUs, with these levels.
+fn wanted_of(
+    files: &ImportFiles,
+    options: &ImportOptions,
+    told: &ImportLoad,
+    cpus: ToldCpus,
+    levels: LevelTable,
+) -> Wanted {
     Wanted {
         script: files.script.is_some(),
         times: options.times,
@@ -65,6 +89,8 @@ fn wanted_of(files: &ImportFiles, options: &ImportOptions, cpus: ToldCpus) -> Wa
         waits: files.waits.is_some(),
         kernel_threads: options.kernel_threads,
         cpus,
+        time: time_of(told),
+        levels,
     }
 }
 
@@ -86,6 +112,14 @@ fn refuse_one_place(rt: &HostRuntime, source: &Source, files: &ImportFiles) -> O
         }
     }
     None
+}
+
+/// Says why these words ask for nothing, and answers the exit status.
+fn refuse_words<D: std::fmt::Display>(rt: &HostRuntime, source: &Source, why: &D) -> ExitCode {
+    let status = end(rt, &Met::ended(Ending::BadCommandLine), source, NO_LENGTH);
+    // Nothing can be said of an error on standard error itself.
+    let _ = eprintln!(rt; "pc-sim: {why}; {MORE_OF_IMPORT}");
+    status
 }
 
 /// What is met where a file is to be written that is read.
@@ -204,12 +238,15 @@ fn import_recording(
     recording: &Recording,
     files: &ImportFiles,
     options: &ImportOptions,
+    told: &ImportLoad,
+    levels: LevelTable,
 ) -> ExitCode {
     let cpus = match cpus_of(recording, options) {
         Ok(cpus) => cpus,
         Err(fault) => return refuse_cpus(rt, source, &fault),
     };
-    let made = match import(rt.alloc(), recording, &wanted_of(files, options, cpus)) {
+    let wanted = wanted_of(files, options, told, cpus, levels);
+    let made = match import(rt.alloc(), recording, &wanted) {
         Ok(made) => made,
         Err(fault) => return end_unmade(rt, source, &fault),
     };
@@ -235,17 +272,30 @@ pub(crate) fn import_on_machine(
     file: Option<String>,
     files: &ImportFiles,
     options: &ImportOptions,
+    told: &ImportLoad,
 ) -> ExitCode {
     let source = Source(file);
     if let Some(status) = refuse_one_place(rt, &source, files) {
         return status;
     }
+    if told.all && told.window.is_some() {
+        return refuse_words(rt, &source, &"--window and --all cannot both be given");
+    }
+    let levels = match levels_of(rt, told) {
+        Ok(levels) => levels,
+        Err(LevelsFault::OutOfMemory) => {
+            return end(rt, &Met::ended(Ending::OutOfMemory), &source, NO_LENGTH);
+        }
+        Err(fault) => return refuse_words(rt, &source, &fault),
+    };
     if let Some(met) = refuse_own(rt, &source, files) {
         return end(rt, &met, &source, NO_LENGTH);
     }
     let mut reader = Noted::new(Opening::new(rt, &source));
     match Recording::read(rt.alloc(), &mut reader, options.limit) {
-        Ok(recording) => import_recording(rt, &source, &recording, files, options),
+        Ok(recording) => {
+            import_recording(rt, &source, &recording, files, options, told, levels)
+        }
         Err(fault) => end_unread(rt, &source, &fault, reader.fault()),
     }
 }

@@ -290,6 +290,7 @@ fn do_command<R: Threads + Wait + Clock + Sync>(
         ProgramCommand::Import {
             file,
             files,
+            told,
             times,
             kernel_threads,
             cpus,
@@ -301,7 +302,7 @@ fn do_command<R: Threads + Wait + Clock + Sync>(
                 cpus,
                 limit,
             };
-            import_on_machine(rt, file, &files, &options)
+            import_on_machine(rt, file, &files, &options, &told)
         }
     }
 }

@@ -149,6 +149,17 @@ const KERNEL_THREADS: &str = "tells of the kernel's own threads, too";
 
 const TOLD_CPUS: &str = "tells of these CPUs alone, counted from 0, and numbers them anew";
 
+const TOLD_TIME: &str =
+    "tells in loads and waits these microseconds behind the first event, and not those in which all CPUs are recorded";
+
+const ALL_TIME: &str = "tells all time in loads and waits";
+
+const TOLD_GROUPS: &str =
+    "groups the threads of a load: comm, by their names; pid, by their numbers; or a list of REGEX=NAME";
+
+const TOLD_LEVELS: &str =
+    "the levels of a load: a list of PRIORITY=LEVEL, up to which priority a thread has which; or none";
+
 const FIRST_EVENTS: &str = "reads so many events at most (0 to 18446744073709551615)";
 
 const LOAD: &str = "the load; without it, and where it is `-`, the standard input is read";
@@ -403,7 +414,8 @@ fn with_table_forms<'a>(parser: Parser<'a>, alloc: Global) -> Result<Parser<'a>,
     with_flag(parser, alloc, "picture", WAITS)
 }
 
-/// `import [FILE]`, the four options of files, `[--times] [--kernel-threads] [--cpus NUMBERS] [--limit NUMBER]`
+/// `import [FILE]`, the four options of files, `[--times] [--kernel-threads] [--cpus NUMBERS]`, the four of what a load
+/// tells, and `[--limit NUMBER]`
 #[inline(never)]
 fn import_parser<'a>(alloc: Global) -> Result<Parser<'a>, AllocError>
     ensures { IfOk result (λ parser. app_of parser ≡ importing) }
@@ -413,7 +425,21 @@ fn import_parser<'a>(alloc: Global) -> Result<Parser<'a>, AllocError>
     let parser = with_flag(parser, alloc, "times", TELLS_TIMES)?;
     let parser = with_flag(parser, alloc, "kernel-threads", KERNEL_THREADS)?;
     let parser = with_option(parser, alloc, "cpus", "NUMBERS", TOLD_CPUS)?;
+    let parser = with_told_load(parser, alloc)?;
     with_most(parser, alloc)
+}
+
+/// Adds `[--window NUMBERS] [--all] [--group-by GROUPS] [--levels LEVELS]`, of what a load tells.
+#[inline(never)]
+fn with_told_load<'a>(parser: Parser<'a>, alloc: Global) -> Result<Parser<'a>, AllocError>
+    ensures { IfOk result (λ more. app_of more ≡ with_rule (with_rule (with_rule
+        (with_rule (app_of parser.entry) (option (codes "window"))) (flag (codes "all")))
+        (option (codes "group-by"))) (option (codes "levels"))) }
+{
+    let parser = with_option(parser, alloc, "window", "NUMBERS", TOLD_TIME)?;
+    let parser = with_flag(parser, alloc, "all", ALL_TIME)?;
+    let parser = with_option(parser, alloc, "group-by", "GROUPS", TOLD_GROUPS)?;
+    with_option(parser, alloc, "levels", "LEVELS", TOLD_LEVELS)
 }
 
 /// Adds `[--script FILE] [--load FILE] [--settings FILE] [--waits FILE]`, into which a recording is written.
