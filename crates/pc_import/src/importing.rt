@@ -9,11 +9,13 @@ ghost use Rattle.toml.specs.Parse.{parse_document};
 use crate::accepted::{ImportFault, accepted_load, accepted_settings};
 use crate::asker::{Asker, Refused};
 use crate::cpus::ToldCpus;
+use crate::groups::Groups;
 use crate::histories::Histories;
 use crate::levels::LevelTable;
 use crate::lives::Lives;
+use crate::load_text::load_text;
 use crate::tally::Tally;
-use crate::texts::{LeftOut, load_text, settings_text};
+use crate::texts::{LeftOut, settings_text};
 use crate::translator::Translator;
 use crate::waits::waits_text;
 use crate::window::{ChosenTime, ToldTime, Window, first_time};
@@ -21,7 +23,7 @@ use pc_recording::Recording;
 use std::alloc::Global;
 
 /// What is to be made of a recording.
-#[derive(Debug, Drop)]
+#[derive(Drop)]
 pub struct Wanted {
     pub script: bool,
     /// Whether the script tells the time of what comes next.
@@ -37,6 +39,8 @@ pub struct Wanted {
     pub time: ChosenTime,
     /// Which levels the threads of the load have.
     pub levels: LevelTable,
+    /// By what they are groups.
+    pub groups: Groups,
 }
 
 impl Wanted {

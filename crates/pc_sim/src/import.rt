@@ -6,8 +6,8 @@ use crate::files::{are_one, are_one_place, put_whole, write_whole};
 use crate::met::{Met, Source};
 use crate::streams::{Noted, Opening};
 use pc_import::{
-    ChosenTime, CpuFault, CpuRange, ImportFault, Imported, LevelTable, LevelsFault, ToldCpus, Wanted,
-    import, write_report,
+    ChosenTime, CpuFault, CpuRange, Groups, GroupsFault, ImportFault, Imported, LevelTable,
+    LevelsFault, ToldCpus, Wanted, import, write_report,
 };
 use pc_program::{Ending, Failure, ImportFiles, ImportLoad, Interval};
 use pc_recording::{Recording, RecordingFault};
@@ -65,6 +65,14 @@ fn time_of(told: &ImportLoad) -> ChosenTime {
     }
 }
 
+/// By what the threads of a load are to be groups.
+fn groups_of(rt: &HostRuntime, told: &ImportLoad) -> Result<Groups, GroupsFault> {
+    match &told.groups {
+        Some(text) => Groups::read(rt.alloc(), text.as_str()),
+        None => Ok(Groups::Names),
+    }
+}
+
 /// The levels that threads of a load are to have.
 fn levels_of(rt: &HostRuntime, told: &ImportLoad) -> Result<LevelTable, LevelsFault> {
     match &told.levels {
@@ -73,13 +81,35 @@ fn levels_of(rt: &HostRuntime, told: &ImportLoad) -> Result<LevelTable, LevelsFa
     }
 }
 
-/// What is to be made, of these CPUs, with these levels.
+/// The levels and groups of threads.
+#[derive(Drop)]
+struct Labels {
+    levels: LevelTable,
+    groups: Groups,
+}
+
+/// The levels and groups that are asked for; or what was said of words that ask for none, with the exit status.
+fn labels_of(rt: &HostRuntime, source: &Source, told: &ImportLoad) -> Result<Labels, ExitCode> {
+    let none_left = || end(rt, &Met::ended(Ending::OutOfMemory), source, NO_LENGTH);
+    let levels = match levels_of(rt, told) {
+        Ok(levels) => levels,
+        Err(LevelsFault::OutOfMemory) => return Err(none_left()),
+        Err(fault) => return Err(refuse_words(rt, source, &fault)),
+    };
+    match groups_of(rt, told) {
+        Ok(groups) => Ok(Labels { levels, groups }),
+        Err(GroupsFault::OutOfMemory) => Err(none_left()),
+        Err(fault) => Err(refuse_words(rt, source, &fault)),
+    }
+}
+
+/// What is to be made, of these CPUs, with these levels and groups.
 fn wanted_of(
     files: &ImportFiles,
     options: &ImportOptions,
     told: &ImportLoad,
     cpus: ToldCpus,
-    levels: LevelTable,
+    labels: Labels,
 ) -> Wanted {
     Wanted {
         script: files.script.is_some(),
@@ -90,7 +120,8 @@ fn wanted_of(
         kernel_threads: options.kernel_threads,
         cpus,
         time: time_of(told),
-        levels,
+        levels: labels.levels,
+        groups: labels.groups,
     }
 }
 
@@ -239,13 +270,13 @@ fn import_recording(
     files: &ImportFiles,
     options: &ImportOptions,
     told: &ImportLoad,
-    levels: LevelTable,
+    labels: Labels,
 ) -> ExitCode {
     let cpus = match cpus_of(recording, options) {
         Ok(cpus) => cpus,
         Err(fault) => return refuse_cpus(rt, source, &fault),
     };
-    let wanted = wanted_of(files, options, told, cpus, levels);
+    let wanted = wanted_of(files, options, told, cpus, labels);
     let made = match import(rt.alloc(), recording, &wanted) {
         Ok(made) => made,
         Err(fault) => return end_unmade(rt, source, &fault),
@@ -281,12 +312,9 @@ pub(crate) fn import_on_machine(
     if told.all && told.window.is_some() {
         return refuse_words(rt, &source, &"--window and --all cannot both be given");
     }
-    let levels = match levels_of(rt, told) {
-        Ok(levels) => levels,
-        Err(LevelsFault::OutOfMemory) => {
-            return end(rt, &Met::ended(Ending::OutOfMemory), &source, NO_LENGTH);
-        }
-        Err(fault) => return refuse_words(rt, &source, &fault),
+    let labels = match labels_of(rt, &source, told) {
+        Ok(labels) => labels,
+        Err(status) => return status,
     };
     if let Some(met) = refuse_own(rt, &source, files) {
         return end(rt, &met, &source, NO_LENGTH);
@@ -294,7 +322,7 @@ pub(crate) fn import_on_machine(
     let mut reader = Noted::new(Opening::new(rt, &source));
     match Recording::read(rt.alloc(), &mut reader, options.limit) {
         Ok(recording) => {
-            import_recording(rt, &source, &recording, files, options, told, levels)
+            import_recording(rt, &source, &recording, files, options, told, labels)
         }
         Err(fault) => end_unread(rt, &source, &fault, reader.fault()),
     }
