@@ -32,9 +32,7 @@ pub enum Groups {
 #[derive(Clone, Copy, Debug, Error, PartialEq, Eq)]
 pub enum GroupsFault {
     /// It is no list.
-    #[error(
-        "groups are `comm`, `pid` or a list of up to 64 REGEX=NAME with blanks between, NAME of 1 to 64 bytes"
-    )]
+    #[error("groups are `comm`, `pid` or a list of up to 64 REGEX=NAME with blanks between, NAME of 1 to 64 bytes")]
     NoList,
     /// The expression with this place, counted from 0, is none.
     #[error("expression {0} of the groups is none")]

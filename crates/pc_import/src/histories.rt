@@ -19,11 +19,7 @@ pub(crate) struct Histories {
 
 impl Histories {
     /// None yet: of all time from here on, if they are wanted, and of a window, if those are.
-    pub(crate) fn new(
-        alloc: Global,
-        whole: Option<Window>,
-        window: Option<Window>,
-    ) -> Histories {
+    pub(crate) fn new(alloc: Global, whole: Option<Window>, window: Option<Window>) -> Histories {
         Histories {
             whole: whole.map(|time| Lives::new(alloc, time)),
             window: window.map(|time| Lives::new(alloc, time)),

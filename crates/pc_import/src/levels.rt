@@ -31,10 +31,8 @@ const MOST_LEVEL: u8 = 7;
 #[derive(Clone, Copy, Debug, Error, PartialEq, Eq)]
 pub enum LevelsFault {
     /// It is no list.
-    #[error(
-        "levels are `none` or a list of PRIORITY=LEVEL with commas between, each priority greater than the one before, \
-         and levels 0 to 7"
-    )]
+    #[error("levels are `none` or a list of PRIORITY=LEVEL with commas between, each priority greater than the one before, \
+         and levels 0 to 7")]
     NoList,
     #[error("out of memory")]
     OutOfMemory,

@@ -89,7 +89,13 @@ fn narrow(number: u64) -> u32 {
 
 impl Life {
     /// Tells a run, of which this part lies in the window. Its first one tells when the thread came.
-    fn add(&mut self, window: Window, ready: u64, part: Part, left: Left) -> Result<(), AllocError> {
+    fn add(
+        &mut self,
+        window: Window,
+        ready: u64,
+        part: Part,
+        left: Left,
+    ) -> Result<(), AllocError> {
         let ran = narrow(ticks(part.begin, part.end));
         if self.start.is_none() {
             self.start = Some(window.tick(ready));

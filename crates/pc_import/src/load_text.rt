@@ -142,7 +142,10 @@ impl Wakers<'_> {
 
     /// How many sleeps there are up to the last whose waker is told.
     fn count(&self) -> usize {
-        let last = self.sleeps.iter().rposition(|sleep| self.waker(sleep).is_some());
+        let last = self
+            .sleeps
+            .iter()
+            .rposition(|sleep| self.waker(sleep).is_some());
         last.map_or(0, |place| place.saturating_add(1))
     }
 }
@@ -180,13 +183,14 @@ impl Person<'_> {
         let (name, pid) = (Quoted(self.name), self.pid);
         writeln!(table, "name = {name}\npid = {pid}")?;
         match self.group {
-            Group::Name => Ok(()),
-            Group::Pid => writeln!(table, "group = \"{pid}\""),
+            Group::Name => {}
+            Group::Pid => writeln!(table, "group = \"{pid}\"")?,
             Group::Named(group) => {
                 let group = Quoted(group);
-                writeln!(table, "group = {group}")
+                writeln!(table, "group = {group}")?;
             }
         }
+        Ok(())
     }
 }
 
@@ -229,10 +233,7 @@ fn write_thread(
     let runs = first_runs(life, LOAD.runs, left_out);
     let sleeps = sleeps_of(life, runs.len());
     let start = life.start.unwrap_or(0);
-    let long = sleeps
-        .iter()
-        .filter(|sleep| sleep.ticks > LONGEST)
-        .count() as u64;
+    let long = sleeps.iter().filter(|sleep| sleep.ticks > LONGEST).count() as u64;
     let late = u64::from(start > LONGEST);
     left_out.long = left_out.long.saturating_add(long).saturating_add(late);
     let (queue, mask, start) = (life.queue.index(), AllCpus(cpus), start.min(LONGEST));

@@ -104,11 +104,7 @@ fn push_waits<'a>(head: &'a str, waits: &Waits, rows: &mut Vec<Row<'a>>) -> Resu
 
 /// The recorded numbers, by the names that a lab's table has for them; and how many waits the window cuts, if it has an
 /// end. Without one the last event is at this tick.
-pub(crate) fn waits_text(
-    alloc: Global,
-    lives: &Lives,
-    last: u64,
-) -> Result<String, AllocError> {
+pub(crate) fn waits_text(alloc: Global, lives: &Lives, last: u64) -> Result<String, AllocError> {
     let all = Waits::of(alloc, lives, false)?;
     let woken = Waits::of(alloc, lives, true)?;
     let until = lives.window.until();

@@ -55,10 +55,7 @@ pub(crate) fn ticks(from: u64, to: u64) -> u64 {
 impl Window {
     /// All time from a nanosecond on.
     pub(crate) fn all(from: u64) -> Window {
-        Window {
-            from,
-            to: None,
-        }
+        Window { from, to: None }
     }
 
     /// The chosen time of these CPUs of a recording, which has its first event then; and how it is told.
@@ -77,10 +74,7 @@ impl Window {
             ChosenTime::Recorded => match while_all_are_recorded(recording, cpus) {
                 Some((from, to)) => {
                     let told = ToldTime::Between(ticks(first, from), ticks(first, to));
-                    let window = Window {
-                        from,
-                        to: Some(to),
-                    };
+                    let window = Window { from, to: Some(to) };
                     (window, told)
                 }
                 None => (Window::all(first), ToldTime::AllForWant),

@@ -321,9 +321,7 @@ pub(crate) fn import_on_machine(
     }
     let mut reader = Noted::new(Opening::new(rt, &source));
     match Recording::read(rt.alloc(), &mut reader, options.limit) {
-        Ok(recording) => {
-            import_recording(rt, &source, &recording, files, options, told, labels)
-        }
+        Ok(recording) => { import_recording(rt, &source, &recording, files, options, told, labels) }
         Err(fault) => end_unread(rt, &source, &fault, reader.fault()),
     }
 }
