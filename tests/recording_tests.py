@@ -593,20 +593,155 @@ def test_a_kept_recording_beside_the_lab() -> None:
         same(cells[:2], [str(round(it / 1_000) if "ms" in title else it) for it in wanted], title)
 
 
+class Told(NamedTuple):
+    """What was made of a recording for the lab: the load, the cells of the waits, and what was told, but for what stood there anyway."""
+
+    load: str
+    waits: dict[str, str]
+    told: list[str]
+
+
+def told_of(text: str | bytes, *words: object) -> Told:
+    with rig.folder() as folder:
+        data = text if isinstance(text, bytes) else text.encode()
+        ended = ask("--load", folder / "load", "--waits", folder / "waits", *words, given=data, text=False)
+        same((ended.returncode, ended.stdout), (0, b""), ended.stderr)
+        load = (folder / "load").read_text()
+        good(rig.ask("lab", folder / "load"))
+        return Told(load, cells_of((folder / "waits").read_text()), [line.removeprefix("pc-sim: ") for line in ended.stderr.decode().splitlines()])
+
+
+def load_of(cpus: int, *threads: str, until: int = 0) -> str:
+    """A load of so many CPUs, by its threads: each a comment and a table."""
+    return f"cpus = {cpus}\n" + (f"until = {until}\n" if until else "") + "".join("\n" + thread for thread in threads)
+
+
+def told_thread(number: int, pid: int, mask: object, start: int, steps: str, sleeps: list[int], queue: int = 0, **more: Any) -> str:
+    """A thread of a load as an import tells it; `more` has its level, its group and who woke it, where they are told."""
+    who = {"level": more["level"]} if "level" in more else {}
+    who |= {"name": more.get("title", f"p{pid}"), "pid": pid} | ({"group": more["group"]} if "group" in more else {})
+    by = {"wakers": more["wakers"]} if "wakers" in more else {}
+    told = table("thread", queue=queue, mask=mask, start=start, **who, steps=steps.split(", "), sleeps=sleeps, **by)
+    return f"# t{number} is {more.get('title', f'p{pid}')}\n" + told
+
+
+# Two CPUs, of which the second is recorded from 20 to 80. 7 and 8 share the first until 8 goes to the second, and 9 wakes
+# 7, and is woken by it at 70.
+TWO_CPUS = (switch(0, 0, 0, "R", 7) + switch(10, 0, 7, "S", 8) + switch(20, 1, 0, "R", 9) + wake(30, 1, 9, 7, 0) + switch(45, 0, 8, "R", 7)
+            + switch(60, 1, 9, "S", 8) + wake(70, 0, 7, 9, 1) + switch(80, 1, 8, "R", 0) + switch(90, 0, 7, "S", 9) + switch(100, 0, 9, "X", 0))
+
+
+def test_the_time_in_which_all_cpus_are_recorded() -> None:
+    """By hand. It is that from 20 to 80: 8 is on its CPU there, and 9 still waits at its end, for no tick that is told."""
+    told = told_of(TWO_CPUS)
+    same(told.load, load_of(
+        2, told_thread(1, 8, 3, 0, "preempt 25, die 20", []), told_thread(2, 9, 3, 0, "block 40, die 0", [10], queue=1, wakers=["2 0 25"]),
+        told_thread(0, 7, 3, 10, "die 35", []), until=60))
+    wanted = {"variant": "recorded", "makespan": 60, "commits": 4, "wait p50": 10, "wait p90": 15, "wait p99": 15, "wait max": 15,
+              "wait sum": 40, "woken p50": 10, "woken p90": 15, "woken p99": 15, "woken max": 15, "woken sum": 25, "waits cut": 1, "ticks ran": 120}
+    same(told.waits, {name: str(value) for name, value in wanted.items()})
+    assert "loads and waits tell microseconds 20 to 80, and cut 1 waits" in told.told, told.told
+
+
+def test_another_time_that_is_chosen() -> None:
+    """Both ends are told, so 20 to 79 is what lasts from 20 to 80. In all time 7 comes at 0, and 9 has waited when it comes on the CPU."""
+    same(told_of(TWO_CPUS, "--window", "20-79"), told_of(TWO_CPUS))
+    told = told_of(TWO_CPUS, "--all")
+    same(told.load, load_of(
+        2, told_thread(0, 7, 3, 0, "block 10, die 45", [20], wakers=["2 0 10"]), told_thread(1, 8, 3, 10, "preempt 35, die 20", []),
+        told_thread(2, 9, 3, 20, "block 40, die 10", [10], queue=1, wakers=["0 1 25"])))
+    same((told.waits["makespan"], told.waits["wait sum"], told.waits["ticks ran"], "waits cut" in told.waits), ("100", "50", "160", False))
+    same([line for line in told.told if "tell" in line], [])
+    told = told_of(TWO_CPUS, "--window", "40")
+    same(told.load, load_of(2, told_thread(0, 7, 3, 0, "die 0", []), told_thread(1, 8, 3, 0, "die 1", []),
+                            told_thread(2, 9, 3, 0, "die 1", [], queue=1), until=1))
+
+
+def test_no_time_in_which_all_cpus_are_recorded() -> None:
+    """The first has its last event before the second has its first. So all time is told, and that."""
+    text = switch(10, 0, 7, "S", 0) + switch(20, 1, 8, "S", 0)
+    told = told_of(text)
+    same((told.load, told.waits), told_of(text, "--all")[:2])
+    assert "loads and waits tell all time: there is none in which all CPUs are recorded" in told.told, told.told
+
+
+def test_where_cpus_are_recorded() -> None:
+    """A script with times tells it: at 20 the second CPU has its first event, at 80 its last."""
+    told = make(TWO_CPUS, "--times").script
+    at = "# at 20"
+    same(told[told.index(at) + 1], "# CPU 1 is recorded from here")
+    place = told.index("# CPU 1 is recorded up to here")
+    same((told[place - 1], told[place + 1]), ("yield 1 20", "# at 90"))
+    same([line for line in told if "recorded" in line], ["# CPU 1 is recorded from here", "# CPU 1 is recorded up to here"])
+    same([line for line in make(TWO_CPUS).script if "recorded" in line], [])
+
+
+def prioritized(us: int, one: str, two: str) -> str:
+    """A switch from a thread of a priority to one of another."""
+    return head(us, 0, int(one.split()[0]), "sched:sched_switch: p{} [{}] R ==> p{} [{}]".format(
+        *(part for told in (one, two) for part in (f"{told.split()[0]}:{told.split()[0]}", told.split()[1]))))
+
+
+@rig.each({
+    "49 and 120": (("7 49", "8 120"), (), (6, 2)), "-1 and 50": (("7 -1", "8 50"), (), (7, 5)), "100 and 110": (("7 100", "8 110"), (), (4, 3)),
+    "99 and 109": (("7 99", "8 109"), (), (5, 4)), "119 and 121": (("7 119", "8 121"), (), (3, 1)), "129 and 130": (("7 129", "8 130"), (), (1, 0)),
+    "two of one level": (("7 101", "8 109"), (), None), "a table": (("7 60", "8 61"), ("--levels", "60=3"), (3, 0)),
+    "a table of one level": (("7 60", "8 61"), ("--levels", "61=3"), None), "none": (("7 49", "8 120"), ("--levels", "none"), None),
+})
+def test_levels_by_priorities(threads: tuple[str, str], words: tuple[str, ...], wanted: tuple[int, int] | None) -> None:
+    load = tomllib.loads(told_of(prioritized(10, *threads) + prioritized(20, *reversed(threads)), "--all", *words).load)
+    same(tuple(it.get("level") for it in load["thread"]), wanted or (None, None))
+
+
+@rig.each({
+    "names": ((), [None, None, None]), "pids": (("--group-by", "pid"), ["7", "8", "9"]), "names by their word": (("--group-by", "comm"), [None, None, None]),
+    "the first that matches": (("--group-by", "p[89]=two ^p=rest"), ["rest", "two", "two"]), "one that matches a name alone": (("--group-by", "^p7$=seven"), ["seven", None, None]),
+    "an expression with a sign between": (("--group-by", "p7=x|8=y"), [None, "y", None]),
+})
+def test_groups(words: tuple[str, ...], wanted: list[str | None]) -> None:
+    text = switch(0, 0, 0, "R", 7) + switch(10, 0, 7, "S", 8) + switch(20, 0, 8, "S", 9) + switch(30, 0, 9, "S", 0)
+    same([it.get("group") for it in tomllib.loads(told_of(text, "--all", *words).load)["thread"]], wanted)
+
+
+def test_names_of_a_load() -> None:
+    """They are texts of TOML. One that is no UTF-8 has a question mark for each byte that is no plain ASCII."""
+    names = ['a "quoted" \\ one', "gr\u00fcn", "a\tb"]
+    lines = [f"{title:>16} {pid} [000] 0.00000{pid}: sched:sched_switch: {title}:{pid} [120] S ==> {other}:{pid + 1} [120]\n"
+             for pid, (title, other) in enumerate(zip(names, names[1:] + ["c"]), 1)]
+    told = tomllib.loads(told_of("".join(lines), "--all").load)["thread"]
+    same([(it["name"], it["pid"]) for it in told], [(title, pid) for pid, title in enumerate([*names, "c"], 1)])
+    cut = switch(10, 0, 7, "S", 8).encode().replace(b"p8", b"gr\xc3")
+    same([it["name"] for it in tomllib.loads(told_of(cut, "--all").load)["thread"]], ["p7", "gr?"])
+
+
+def test_a_load_of_all_cpus() -> None:
+    """TOML has no number for a mask with CPU 63."""
+    text = switch(10, 63, 7, "S", 8)
+    same(told_of(text, "--all").load, load_of(64, told_thread(0, 7, "0-63", 0, "die 0", [], queue=63), told_thread(1, 8, "0-63", 0, "die 0", [], queue=63)))
+
+
+def test_a_thread_that_wakes_itself_is_no_waker() -> None:
+    """It is on its way off its CPU then. Another that does so is."""
+    text = switch(0, 0, 0, "R", 7) + wake(5, 0, 7, 7, 0) + switch(10, 0, 7, "S", 8) + switch(20, 0, 8, "R", 7) + switch(30, 0, 7, "X", 0)
+    assert "wakers" not in told_of(text, "--all").load
+    text = switch(0, 0, 0, "R", 7) + switch(0, 1, 0, "R", 8) + wake(5, 1, 8, 7, 0) + switch(10, 0, 7, "S", 0) + switch(20, 0, 0, "R", 7)
+    text += switch(30, 0, 7, "X", 0) + switch(30, 1, 8, "X", 0)
+    same(told_of(text, "--all").load, load_of(
+        2, told_thread(0, 7, 3, 0, "block 10, die 10", [0], wakers=["1 0 5"]), told_thread(1, 8, 3, 0, "die 30", [], queue=1)))
+
+
 def test_a_load_and_the_waits_that_were_recorded() -> None:
-    """By hand. 7 runs for 10, waits for 20 behind R, runs for 5 and sleeps for 15 from 35; 8 is woken at 50 and waits for 10."""
+    """By hand. 7 runs for 10, waits for 20 behind R, runs for 5 and sleeps for 15 from 35; 8 is woken at 50 and waits for 10.
+
+    9 has run for 20 and for 15 of its span when it wakes both."""
     text = switch(0, 0, 0, "R", 7) + switch(10, 0, 7, "R", 9) + switch(30, 0, 9, "R+", 7) + switch(35, 0, 7, "S", 9)
     text += wake(50, 0, 9, 7, 0) + wake(50, 0, 9, 8, 0) + switch(60, 0, 9, "X", 8) + switch(64, 0, 8, "Z", 7) + switch(70, 0, 7, "S", 0)
-    with rig.folder() as folder:
-        ended = ask("--load", folder / "load", "--waits", folder / "waits", given=text)
-        same(ended.returncode, 0, ended.stderr)
-        load, waits = (folder / "load").read_text(), (folder / "waits").read_text()
-    same(load, "cpus = 1\n\n" + "\n".join(f"# {name}\n" + table("thread", queue=0, mask=1, start=start, steps=steps, sleeps=sleeps) for name, start, steps, sleeps in [
-        ("t0 is p7", 0, ["preempt 10", "block 5", "die 6"], [15]), ("t1 is p9", 10, ["preempt 20", "die 25"], []), ("t2 is p8", 50, ["die 4"], []),
-    ]))
+    told = told_of(text, "--all")
+    same(told.load, load_of(1, told_thread(0, 7, 1, 0, "preempt 10, block 5, die 6", [15], wakers=["1 0 35"]),
+                            told_thread(1, 9, 1, 10, "preempt 20, die 25", []), told_thread(2, 8, 1, 50, "die 4", [])))
     wanted = {"variant": "recorded", "makespan": 70, "commits": 6, "wait p50": 5, "wait p90": 20, "wait p99": 20, "wait max": 20,
               "wait sum": 49, "woken p50": 0, "woken p90": 14, "woken p99": 14, "woken max": 14, "woken sum": 24, "ticks ran": 70}
-    same(cells_of(waits), {name: str(value) for name, value in wanted.items()})
+    same(told.waits, {name: str(value) for name, value in wanted.items()})
 
 
 def test_by_how_much_numbers_are_off() -> None:
