@@ -442,7 +442,8 @@ def test_words_and_help() -> None:
         same(outcome(ask("--script", script, text))[:2], (0, ""))
         same(script.read_text().splitlines(), make(text.read_text()).script)
     told = good(ask("--help"))
-    for flag in (*(f"--{it} <FILE>" for it in TEXTS), "--times", "--kernel-threads", "--cpus <NUMBERS>", "--limit <NUMBER>"):
+    for flag in (*(f"--{it} <FILE>" for it in TEXTS), "--times", "--kernel-threads", "--cpus <NUMBERS>", "--window <NUMBERS>", "--all",
+                 "--group-by <GROUPS>", "--levels <LEVELS>", "--limit <NUMBER>"):
         assert flag in told
 
 

@@ -68,7 +68,7 @@ def streamed(folder):
 def fault_of_made(machine, folder):
     """What is wrong with the texts of a recording: none may have a fault for the command that reads it. No end is waited for."""
     load = folder / "load"
-    load.write_bytes(b"until = 1\n" + load.read_bytes())
+    load.write_bytes(b"until = 1\n" + re.sub(rb"^until = \d+\n", b"", load.read_bytes(), flags=re.M))
     replayed, tried, ran = (machine.run(Subject("", words, folder=folder)) for words in (
         ["replay", "script"], ["lab", "load"], ["run", "--limit", "5", "settings"]))
     if replayed.status != 0 or b"fault line" in replayed.out:
@@ -248,7 +248,9 @@ def drawn_recording(place):
     text = random_bytes(chance) if place % 25 == 24 else Drawn(chance).text()
     text = spoilt(chance, text) if chance.random() < 0.4 else text
     limit = str(chance.randrange(40))
-    return text, chance.choice(([], [], [], ["--times"], ["--kernel-threads"], ["--limit", limit], ["--cpus", "0-3"], ["--cpus", "1-2"]))
+    return text, chance.choice((
+        [], [], [], ["--times"], ["--kernel-threads"], ["--limit", limit], ["--cpus", "0-3"], ["--cpus", "1-2"], ["--all"], ["--window", f"{limit}-99"],
+        ["--group-by", "^[a-z]=low 7=seven"], ["--group-by", "pid"], ["--levels", "99=5,120=2"]))
 
 
 def fault_of_drawn(machine, place):
