@@ -41,6 +41,12 @@ def test_without_times_a_line_is_a_microsecond():
     same(told(traced(SCRIPT.replace("# at", "# when")), "X", "ts", "dur"), [(9, 3)])
 
 
+def test_names_and_what_is_not_recorded_are_told():
+    remarks = WORKED["remarks"]
+    same([*map(list, told(traced(remarks["script"]), "X", "tid", "name", "ts", "dur"))], remarks["runs"])
+    same([*map(list, told(traced(remarks["script"].replace("# at", "# when")), "X", "tid", "name", "ts", "dur"))], remarks["untimed"])
+
+
 def test_a_steal_is_a_mark_and_who_runs_at_the_end_has_a_slice():
     rows = traced("enclave 2 4 9 9 9\ncreate 0 3 ready\npublish 0\nconsume 0\ndeliver 1 0\nsteal 1\npick 1 0\n")
     assert (1, "steal t0", 6) in told(rows, "i", "tid", "name", "ts")

@@ -387,9 +387,10 @@ impl<'t> Moments<'t> {
         );
         let home = home.index();
         let queue = queue.index();
+        let thread = self.layout.thread(thread);
         let _ = write!(
             canvas,
-            "t{thread} {verb} from queue {home} to queue {queue}, "
+            "{thread} {verb} from queue {home} to queue {queue}, "
         );
         say_line(canvas, line);
     }

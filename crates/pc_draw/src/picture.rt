@@ -6,15 +6,33 @@ ghost use Rattle.pc_pen.specs.Drawn.{Marks, Pictures};
 use crate::bars::Bars;
 use crate::ground::draw_ground;
 use crate::lanes::Scene;
-use crate::layout::PictureLayout;
+use crate::layout::{PictureLayout, Remarks};
 use crate::legend::draw_legend;
 use crate::moments::Moments;
 use crate::part::{DrawnPart, Interval};
 use crate::step::{Answer, Deed, Step, Story, Traces};
-use crate::ticks::Scale;
+use crate::ticks::EdgeAt;
 use pc_pen::{Canvas, write_end, write_opening_bytes};
 use pc_script::{Line, lines_of};
 use std::io::{self, Write};
+
+/// Writes the bars that end where recordings of CPUs begin or end.
+fn write_edges<W: Write>(
+    bars: &mut Bars<'_>,
+    scene: &mut Scene,
+    edges: &[EdgeAt],
+    canvas: &mut Canvas,
+    writer: &mut W,
+) -> io::Result<()>
+    ensures { OnOk result (Marks (W.contents writer.old) (W.contents writer.new)) }
+{
+    for edge in edges {
+        canvas.clear();
+        bars.cross(edge, scene, canvas);
+        canvas.write_to(writer)?;
+    }
+    Ok(())
+}
 
 /// Writes the bars of the steps that are drawn.
 fn write_bars<W: Write>(
@@ -27,11 +45,15 @@ fn write_bars<W: Write>(
     ensures { OnOk result (Marks (W.contents writer.old) (W.contents writer.new)) }
 {
     let mut bars = Bars::new(*layout);
-    let mut scene = Scene::new();
+    let mut scene = layout.scene();
+    let mut edges = layout.edges_drawn();
     let mut index = 0u32;
     // The first step takes all changes before it along.
     let mut changed = 0usize;
     for step in steps {
+        let (crossed, others) = layout.edges_before(edges, index);
+        edges = others;
+        write_edges(&mut bars, &mut scene, crossed, canvas, writer)?;
         canvas.clear();
         bars.reach(index, &scene, canvas);
         if let Some(changes) = traces.changes.as_slice().get(changed..step.changed) {
@@ -85,7 +107,7 @@ fn write_moments<W: Write>(
     write_crashes(&mut moments, steps, canvas, writer)?;
     canvas.clear();
     moments.end(canvas);
-    draw_legend(canvas, layout.legend());
+    draw_legend(canvas, layout.legend(), layout.has_edge());
     canvas.write_to(writer)
 }
 
@@ -175,7 +197,7 @@ pub(crate) fn write_picture<W: Write>(
     story: &Story,
     traces: &Traces,
     part: DrawnPart,
-    scale: Scale<'_>,
+    remarks: Remarks<'_>,
     writer: &mut W,
 ) -> io::Result<()>
     ensures { OnOk result (Pictures title.now (W.contents writer.old) (W.contents writer.new)) }
@@ -183,10 +205,12 @@ pub(crate) fn write_picture<W: Write>(
     let all = story.steps.as_slice();
     let (first, end) = places_in(all, part.lines);
     let steps = all.get(first..end).unwrap_or(&[]);
-    let scale = scale.of_steps(first, end);
     let layout = PictureLayout::of(
         part,
-        scale,
+        Remarks {
+            scale: remarks.scale.of_steps(first, end),
+            ..remarks
+        },
         narrow(first),
         narrow(steps.len()),
         cpus_of(all),

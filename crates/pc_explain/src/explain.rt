@@ -20,7 +20,9 @@ use crate::faults::{Settled, tell_fault};
 use crate::openings::{on_long_line, on_version};
 use crate::sentences::Sentences;
 use crate::telling::{CommandContext, tell};
+use crate::words::ThreadNames;
 use pc_policy::PolicyName;
+use pc_remarks::Names;
 use pc_script::{
     Command, Conversed, Helper, Line, Observer, Outcome, Response, ScriptFault, Version, converse,
     read_text, walk,
@@ -31,7 +33,9 @@ use std::io::{BufWriter, Read, Write};
 
 /// Writes, for each line that has a reply, the line, the reply, and sentences on it.
 #[derive(Drop)]
-struct Comments {
+struct Comments<'n> {
+    /// The names of threads.
+    names: ThreadNames<'n>,
     /// What the sentences on the command that is under way need of the world before it.
     before: Before,
     /// The version of the script, which its first line that is not silent settles.
@@ -40,10 +44,11 @@ struct Comments {
     policy: PolicyName,
 }
 
-impl Comments {
+impl<'n> Comments<'n> {
     /// Before the first line.
-    fn new() -> Comments {
+    fn new(names: ThreadNames<'n>) -> Comments<'n> {
         Comments {
+            names,
             before: Before::Nothing,
             settled: None,
             policy: PolicyName::USUAL,
@@ -52,8 +57,8 @@ impl Comments {
 }
 
 /// The sentences on a line that is a fault.
-fn on_fault(settled: Settled, line: Line<'_>) -> Sentences {
-    let mut sentences = Sentences::new();
+fn on_fault(settled: Settled, line: Line<'_>) -> Sentences<'static> {
+    let mut sentences = Sentences::new(ThreadNames(None));
     tell_fault(&mut sentences, settled, line);
     sentences
 }
@@ -69,18 +74,17 @@ fn remembered(session: &Session, command: &Command) -> Before {
 }
 
 /// The sentences on a command that was answered.
-fn on_command(
+fn on_command<'n>(
     session: &Session,
     command: &Command,
     response: &Response,
-    before: &Before,
-    policy: &PolicyName,
-) -> Sentences {
-    let mut sentences = Sentences::new();
+    comments: &Comments<'n>,
+) -> Sentences<'n> {
+    let mut sentences = Sentences::new(comments.names);
     let scene = CommandContext {
         world: session.world(),
-        before,
-        policy,
+        before: &comments.before,
+        policy: &comments.policy,
     };
     tell(&mut sentences, command, response, &scene);
     sentences
@@ -97,7 +101,7 @@ fn note_policy(policy: &mut PolicyName, response: &Response) {
 fn write_told<W: Write>(
     line: Line<'_>,
     response: &Response,
-    sentences: &Sentences,
+    sentences: &Sentences<'_>,
     writer: &mut W,
 ) -> Result<(), ScriptFault>
     ensures ok { OnOk result
@@ -124,7 +128,7 @@ fn write_fault_line<W: Write>(number: u64, writer: &mut W) -> Result<(), ScriptF
 /// Writes a line that is a fault, that it is one, and why.
 fn write_fault<W: Write>(
     line: Line<'_>,
-    sentences: &Sentences,
+    sentences: &Sentences<'_>,
     writer: &mut W,
 ) -> Result<(), ScriptFault>
     ensures ok { OnOk result
@@ -147,7 +151,7 @@ fn write_passed_over<W: Write>(number: u64, writer: &mut W) -> Result<(), Script
     write_sentences(&on_long_line(), writer)
 }
 
-impl<W: Write> Observer<Session, W> for Comments {
+impl<W: Write> Observer<Session, W> for Comments<'_> {
     ghost Tells = { λ old before notices new after. Annotates (notices_text notices) before after };
 
     ghost MayFail = { λ fault. fault ≡ ScriptFault.Write };
@@ -179,7 +183,7 @@ impl<W: Write> Observer<Session, W> for Comments {
     ) -> Result<(), ScriptFault> {
         self.settled = settled_by(self.settled);
         note_policy(&mut self.policy, response);
-        let sentences = on_command(machine, command, response, &self.before, &self.policy);
+        let sentences = on_command(machine, command, response, self);
         let told = write_told(line, response, &sentences, writer);
         let_view_go(response);
         told
@@ -211,8 +215,8 @@ impl<W: Write> Observer<Session, W> for Comments {
 /// comments between.
 ///
 /// What is written is, without its comments, what [`pc_script::run_script`] writes. Reading and the faults are as
-/// there. Comments are printed ASCII, whatever bytes the script has, and take no memory. They are written line by line,
-/// so a writer without a buffer is slow; nothing is flushed.
+/// there. Comments are printed ASCII, whatever bytes the script has, and take no memory but for the names of threads,
+/// by which they tell these. They are written line by line, so a writer without a buffer is slow; nothing is flushed.
 pub fn explain_script<R: Read, W: Write>(
     alloc: Global,
     reader: &mut R,
@@ -235,15 +239,18 @@ pub fn explain_script<R: Read, W: Write>(
         × Consumes (R.remaining reader.old) (R.remaining reader.new) bytes }
 {
     let text = read_text(alloc, reader)?;
-    let mut comments = Comments::new();
-    walk::<Session, Comments, W>(alloc, text.as_slice(), &mut comments, writer)
+    let Ok(names) = Names::in_text(alloc, text.as_slice()) else {
+        return Err(ScriptFault::OutOfMemory);
+    };
+    let mut comments = Comments::new(ThreadNames(Some(&names)));
+    walk::<Session, Comments<'_>, W>(alloc, text.as_slice(), &mut comments, writer)
 }
 
 /// Answers the lines of a text one after another, as [`pc_script::run_session`] does in a session of its own, and
 /// writes the responses with comments between.
 ///
 /// What is written is, without its comments, what is written there, and its comments are printed ASCII. A line that was
-/// passed over is told by its number alone.
+/// passed over is told by its number alone, and so is each thread.
 pub fn explain_session<R: Read, W: Write + Drop, H: Helper>(
     alloc: Global,
     reader: &mut R,
@@ -267,6 +274,6 @@ pub fn explain_session<R: Read, W: Write + Drop, H: Helper>(
     ensures err { (fault : ScriptFault) → result ≡ Err fault → (fault ≡ ScriptFault.OutOfMemory)
         ⊎ (fault ≡ ScriptFault.Write) ⊎ (fault ≡ ScriptFault.TooLong) }
 {
-    let mut comments = Comments::new();
-    converse::<Session, Comments, R, W, H>(alloc, reader, &mut comments, helper, writer)
+    let mut comments = Comments::new(ThreadNames(None));
+    converse::<Session, Comments<'_>, R, W, H>(alloc, reader, &mut comments, helper, writer)
 }

@@ -2,9 +2,10 @@
 
 ghost use Rattle.std.specs.Prelude.{◌≤◌};
 
-use crate::words::Count;
+use crate::words::{Count, ThreadNames};
 use pc_delta::{Delta, Part};
 use pc_messages::Tid;
+use pc_remarks::NamedThread;
 use pc_view::View;
 use std::fmt;
 
@@ -89,6 +90,11 @@ impl News {
         }
     }
 
+    /// The messages, in words that have these names.
+    pub(crate) fn in_words<'n>(&'n self, names: ThreadNames<'n>) -> NewsInWords<'n> {
+        NewsInWords { news: self, names }
+    }
+
     /// Whether there are no messages.
     pub(crate) fn is_empty(&self) -> bool {
         self.told == 0
@@ -120,28 +126,48 @@ impl News {
     }
 }
 
-impl fmt::Display for Range {
+/// A range, in words.
+#[derive(Clone, Copy)]
+struct RangeInWords<'n> {
+    thread: NamedThread<'n>,
+    from: u32,
+    to: u32,
+}
+
+impl fmt::Display for RangeInWords<'_> {
     fn fmt<W: fmt::Write>(&self, f: &mut fmt::Formatter<W>) -> fmt::Result {
-        let thread = self.thread.index();
+        let thread = self.thread;
         let from = self.from;
         let to = self.to;
         if from == to {
-            write!(f, "t{thread} {from}")
+            write!(f, "{thread} {from}")
         } else {
-            write!(f, "t{thread} {from} to {to}")
+            write!(f, "{thread} {from} to {to}")
         }
     }
 }
 
-impl fmt::Display for News {
+/// Messages, and the names of their threads.
+#[derive(Clone, Copy)]
+pub(crate) struct NewsInWords<'n> {
+    news: &'n News,
+    names: ThreadNames<'n>,
+}
+
+impl fmt::Display for NewsInWords<'_> {
     fn fmt<W: fmt::Write>(&self, f: &mut fmt::Formatter<W>) -> fmt::Result {
         let mut before = "";
-        for range in &self.ranges[..self.told] {
+        for range in &self.news.ranges[..self.news.told] {
+            let range = RangeInWords {
+                thread: self.names.thread(range.thread),
+                from: range.from,
+                to: range.to,
+            };
             write!(f, "{before}{range}")?;
             before = ", ";
         }
-        if self.more > 0 {
-            let more = Count(self.more, "message");
+        if self.news.more > 0 {
+            let more = Count(self.news.more, "message");
             write!(f, ", and {more} more")?;
         }
         Ok(())
