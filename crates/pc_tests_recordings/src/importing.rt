@@ -138,7 +138,7 @@ fn told_of(alloc: Global, first: u32, last: u32) -> Option<Result<Imported, CpuF
     }
 }
 
-/// The script of CPU 2 alone.
+/// The script of CPU 2 alone, where `c` was from the start.
 const OF_CPU_2: &[u8] = b"\
 enclave 1 2 1000000 65536 4294967295
 # t0 is c, 9
@@ -146,7 +146,7 @@ create 0 1 ready
 publish 0
 consume 0
 commit 0 t0 1
-block 0 0
+block 0 10
 # t1 is d, 10
 create 0 1 ready
 publish 0
