@@ -360,7 +360,7 @@ impl Asker {
         };
         self.make_room(left.cpu)?;
         if self.ask(Asked::Leave(left.leaving), &Event::Env(left.call()))? {
-            self.histories.left(thread, left, self.time)?;
+            self.histories.left(thread, &left, self.time)?;
         }
         Ok(())
     }

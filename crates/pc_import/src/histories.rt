@@ -95,7 +95,7 @@ impl Histories {
     }
 
     /// The thread leaves its CPU.
-    pub(crate) fn left(&mut self, thread: Tid, left: Left, time: u64) -> Result<(), AllocError> {
+    pub(crate) fn left(&mut self, thread: Tid, left: &Left, time: u64) -> Result<(), AllocError> {
         self.runs = self.runs.saturating_add(1);
         self.ticks = self.ticks.saturating_add(u64::from(left.ran));
         if let Some(lives) = &mut self.whole {

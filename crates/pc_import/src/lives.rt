@@ -94,13 +94,13 @@ impl Life {
         window: Window,
         ready: u64,
         part: Part,
-        left: Left,
+        left: &Left,
     ) -> Result<(), AllocError> {
         let ran = narrow(ticks(part.begin, part.end));
         if self.start.is_none() {
             self.start = Some(window.tick(ready));
         }
-        self.runs.push(Left { ran, ..left })?;
+        self.runs.push(Left { ran, ..*left })?;
         if left.leaving == Leaving::Block {
             self.span = self.span.saturating_add(1);
             self.span_ran = 0;
@@ -123,7 +123,7 @@ impl Life {
             is_cut: true,
         };
         self.doing = Doing::Nothing;
-        self.add(window, ready, part, left)
+        self.add(window, ready, part, &left)
     }
 
     /// Where a waking by this thread is at this time, if it runs then.
@@ -273,7 +273,7 @@ impl Lives {
     }
 
     /// The thread leaves its CPU.
-    pub(crate) fn left(&mut self, thread: Tid, left: Left, time: u64) -> Result<(), AllocError> {
+    pub(crate) fn left(&mut self, thread: Tid, left: &Left, time: u64) -> Result<(), AllocError> {
         let window = self.window;
         let Some(life) = self.life(thread) else {
             return Ok(());

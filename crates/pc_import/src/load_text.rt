@@ -221,12 +221,12 @@ fn sleeps_of<'a>(life: &'a Life, count: usize) -> &'a [Sleep] {
 }
 
 /// The table of a life, of the one with this title.
-fn write_thread(
-    life: &Life,
+fn write_thread<'t>(
+    life: &'t Life,
     title: &Title<'_>,
     cpus: u8,
     person: &Person<'_>,
-    threads: &Threads<'_>,
+    threads: &'t Threads<'t>,
     left_out: &mut LeftOut,
     table: &mut String,
 ) -> fmt::Result {

@@ -145,7 +145,7 @@ impl<'r> Translator<'r> {
                     leaving: Leaving::Die,
                     ran: self.ran(cpu, time),
                 };
-                self.asker.histories.left(thread, left, time)?;
+                self.asker.histories.left(thread, &left, time)?;
             }
         }
         self.asker.histories.end()

@@ -1,8 +1,8 @@
 //! What no script of tests/cases can say: a script over memory, the words of a command line, and how the program ends.
 
 use pc_program::{
-    Axis, CommandFault, DrawnPart, Ending, Failure, Helper, ImportFiles, Interval, Missing,
-    ProgramCommand, ReportForm, ScriptForm, Seeds, VariantsFrom, converse_flushed, make,
+    Axis, CommandFault, DrawnPart, Ending, Failure, Helper, ImportFiles, ImportLoad, Interval,
+    Missing, ProgramCommand, ReportForm, ScriptForm, Seeds, VariantsFrom, converse_flushed, make,
     read_command, replay_flushed, run_script,
 };
 use pc_script::Outcome;
@@ -138,8 +138,8 @@ enum Asked {
     /// Whether other variants are tried, whether the time of each CPU is told, whether for other tools, and whether the
     /// waits are drawn.
     Lab(bool, bool, bool, bool),
-    /// Of which CPUs, and of how many events at most; which files are named, and which flags are set.
-    Import(Option<Interval>, Option<u64>, [bool; 4], [bool; 2]),
+    /// Of which CPUs and microseconds, and of how many events at most; which files are named, and which flags are set.
+    Import([Option<Interval>; 2], Option<u64>, [bool; 6], [bool; 3]),
 }
 
 fn read_off(
@@ -172,24 +172,28 @@ fn read_off(
         ProgramCommand::Import {
             file,
             files,
+            told,
             times,
             kernel_threads,
             cpus,
             limit,
         } => {
-            let flags = [times, kernel_threads];
-            Ok((Asked::Import(cpus, limit, are_named(&files), flags), file))
+            let (flags, numbers) = ([times, kernel_threads, told.all], [cpus, told.window]);
+            let named = are_named(&files, &told);
+            Ok((Asked::Import(numbers, limit, named, flags), file))
         }
     }
 }
 
-/// Which files a recording is written into, each by the name that its option has here.
-fn are_named(files: &ImportFiles) -> [bool; 4] {
+/// Which files a recording is written into, and which groups and levels are told, each by what its option has here.
+fn are_named(files: &ImportFiles, told: &ImportLoad) -> [bool; 6] {
     [
         is_named(&files.script, Some("made.script")),
         is_named(&files.load, Some("load.toml")),
         is_named(&files.settings, Some("settings.toml")),
         is_named(&files.waits, Some("-")),
+        is_named(&told.groups, Some("pid")),
+        is_named(&told.levels, Some("none")),
     ]
 }
 
@@ -397,7 +401,7 @@ static COMMANDS: [(&[&str], Asked, Option<&str>); 29] = [
     ),
     (
         &["pc-sim", "import", "-"],
-        Asked::Import(None, None, [false; 4], [false; 2]),
+        Asked::Import([None; 2], None, [false; 6], [false; 3]),
         None,
     ),
     (
@@ -416,14 +420,26 @@ static COMMANDS: [(&[&str], Asked, Option<&str>); 29] = [
             "--kernel-threads",
             "--cpus",
             "3-7",
+            "--window",
+            "500-1499",
+            "--all",
+            "--group-by=pid",
+            "--levels",
+            "none",
             "--limit",
             "18446744073709551615",
         ],
         Asked::Import(
-            Some(Interval { first: 3, last: 7 }),
+            [
+                Some(Interval { first: 3, last: 7 }),
+                Some(Interval {
+                    first: 500,
+                    last: 1_499,
+                }),
+            ],
             Some(u64::MAX),
-            [true; 4],
-            [true; 2],
+            [true; 6],
+            [true; 3],
         ),
         Some("r.txt"),
     ),
