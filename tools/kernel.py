@@ -143,7 +143,7 @@ class Edge(NamedTuple):
     begins: bool
 
 
-def edges_of(script: str) -> list[Edge]:
+def told_edges(script: str) -> list[Edge]:
     """Where recordings of CPUs begin and end, of a script some of whose commands have ticks."""
     told = ((number, tick or 0, RECORDED.fullmatch(line)) for number, tick, line in timed_lines(script))
     return [Edge(number, tick, int(it[1]), it[2] == "from") for number, tick, it in told if it] if ticks_of(script) else []

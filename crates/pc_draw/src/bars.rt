@@ -210,7 +210,8 @@ impl<'t> Bars<'t> {
     /// Goes on to a step that is drawn, up to which this went on, and draws the bars that end before it.
     pub(crate) fn reach(&mut self, index: u32, scene: &Scene, canvas: &mut Canvas) {
         let column = self.layout.column_of(index);
-        self.reach_at(column, self.layout.behind(index), scene, canvas);
+        let behind = self.layout.behind(index);
+        self.reach_at(column, behind, scene, canvas);
     }
 
     /// Goes on to a place in a column, and draws the bars that end before it.
@@ -270,11 +271,15 @@ impl<'t> Bars<'t> {
         }
     }
 
-    /// Goes on over an edge, and draws the bars that end before it.
-    pub(crate) fn cross(&mut self, edge: &EdgeAt, scene: &mut Scene, canvas: &mut Canvas) {
+    /// Goes on to an edge, and draws the bars that end before it.
+    pub(crate) fn reach_edge(&mut self, edge: &EdgeAt, scene: &Scene, canvas: &mut Canvas) {
         let behind = self.layout.behind_tick(edge.tick);
-        self.reach_at(self.layout.column_behind(behind), behind, scene, canvas);
-        scene.cross(edge);
+        let column = self.layout.column_behind(behind);
+        self.reach_at(column, behind, scene, canvas);
+    }
+
+    /// Takes an edge, after which this goes on.
+    pub(crate) fn take_edge(&mut self, edge: &EdgeAt, scene: &Scene) {
         self.take_line(edge.line, scene);
     }
 

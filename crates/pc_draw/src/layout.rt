@@ -48,7 +48,7 @@ pub(crate) struct Remarks<'t> {
     pub(crate) scale: Scale<'t>,
     /// Where recordings of CPUs begin or end; none on an axis of lines.
     pub(crate) edges: &'t [EdgeAt],
-    pub(crate) names: &'t Names<'t>,
+    pub(crate) names: &'t Names,
 }
 
 /// The sizes of a script's picture.
@@ -57,7 +57,7 @@ pub(crate) struct PictureLayout<'t> {
     pub(crate) part: DrawnPart,
     pub(crate) scale: Scale<'t>,
     pub(crate) edges: &'t [EdgeAt],
-    names: &'t Names<'t>,
+    names: &'t Names,
     /// On an axis of ticks the first tick that is drawn, and how many ticks the last is behind it.
     pub(crate) first_tick: u64,
     pub(crate) span: u64,

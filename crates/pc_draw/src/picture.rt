@@ -28,7 +28,9 @@ fn write_edges<W: Write>(
 {
     for edge in edges {
         canvas.clear();
-        bars.cross(edge, scene, canvas);
+        bars.reach_edge(edge, scene, canvas);
+        scene.cross(edge);
+        bars.take_edge(edge, scene);
         canvas.write_to(writer)?;
     }
     Ok(())

@@ -7,7 +7,7 @@ use std::fmt;
 
 /// The names of threads that are known: those of a script's text, or none, as in a session.
 #[derive(Clone, Copy)]
-pub(crate) struct ThreadNames<'n>(pub(crate) Option<&'n Names<'n>>);
+pub(crate) struct ThreadNames<'n>(pub(crate) Option<&'n Names>);
 
 impl<'n> ThreadNames<'n> {
     /// A thread, by its name.
