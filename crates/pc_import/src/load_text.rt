@@ -299,8 +299,8 @@ fn text_of_threads(
     Ok(text)
 }
 
-/// A load for the lab, and what is left out of it: each thread with all its runs in the window, on all CPUs. Who did not
-/// end there does so in its last run. Where not all threads fit, the first ones are told, and no other as a waker.
+/// A load for the lab, and what is left out of it: each thread with all its runs in the window, on all CPUs. Who did
+/// not end there does so in its last run. Where not all threads fit, the first ones are told, and no other as a waker.
 pub(crate) fn load_text(
     alloc: Global,
     lives: &Lives,
