@@ -29,7 +29,7 @@ _pc_sim() {
     run) flags="--per-cpu --draw --limit --policy --script --seed --runs -h --help" ;;
     draw) flags="--cpus --lines --time -h --help" ;;
     session) flags="--explain -h --help" ;;
-    lab) flags="--variants --per-cpu --csv --picture --script -h --help" ;;
+    lab) flags="--variants --per-cpu --by-group --csv --picture --script -h --help" ;;
     import) flags="--script --load --settings --waits --times --kernel-threads --cpus --limit -h --help" ;;
     replay | explain) flags="-h --help" ;;
     *) flags="-h --help -V --version" ;;

@@ -27,6 +27,7 @@ complete -c pc-sim -n "__fish_seen_subcommand_from draw" -l lines -x -d "Draws w
 complete -c pc-sim -n "__fish_seen_subcommand_from draw" -l time -d "Draws time by the script's ticks"
 complete -c pc-sim -n "__fish_seen_subcommand_from lab" -l variants -r -F -d "Tries the variants of this text"
 complete -c pc-sim -n "__fish_seen_subcommand_from lab" -l per-cpu -d "Also tells the time of each CPU"
+complete -c pc-sim -n "__fish_seen_subcommand_from lab" -l by-group -d "Also tells of each group of threads"
 complete -c pc-sim -n "__fish_seen_subcommand_from lab" -l csv -d "Writes the table for other tools"
 complete -c pc-sim -n "__fish_seen_subcommand_from lab" -l picture -d "Draws how long threads waited"
 complete -c pc-sim -n "__fish_seen_subcommand_from lab" -l script -x -d "Writes the run of this variant as a script"

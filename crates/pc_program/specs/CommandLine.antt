@@ -90,13 +90,15 @@ run =
 abbrev pub session : App
 session = with_rule (of_file (codes "session")) (flag (codes "explain"))
 
--- lab [FILE] [--variants FILE] [--per-cpu] [--csv] [--picture] [--script NAME]
+-- lab [FILE] [--variants FILE] [--per-cpu] [--by-group] [--csv] [--picture] [--script NAME]
 abbrev pub lab : App
 lab =
     with_rule
     (with_rule
     (with_rule
+    (with_rule
     (with_rule (with_rule (of_file (codes "lab")) (option (codes "variants"))) (flag (codes "per-cpu")))
+    (flag (codes "by-group")))
     (flag (codes "csv")))
     (flag (codes "picture")))
     (option (codes "script"))
@@ -313,10 +315,10 @@ IsAsked (Some met) (Tally given seconds policy seeds) =
     × IsRuns (one_of (codes "runs") met.1) (Some seeds.many) × AreSeeds seeds × AsksForTotals met.1
 IsAsked (Some met) (Session given explains) =
     IsOf (codes "session") (option_map string_bytes given) met × (IsTrue explains ↔ IsSet (codes "explain") met.1)
-IsAsked (Some met) (Lab given variants each csv picture script) =
+IsAsked (Some met) (Lab given variants each groups csv picture script) =
     IsOf (codes "lab") (option_map string_bytes given) met × IsFrom (first_of (codes "variants") met.1) variants
-    × (IsTrue each ↔ IsSet (codes "per-cpu") met.1) × (IsTrue csv ↔ IsSet (codes "csv") met.1)
-    × (IsTrue picture ↔ IsSet (codes "picture") met.1)
+    × (IsTrue each ↔ IsSet (codes "per-cpu") met.1) × (IsTrue groups ↔ IsSet (codes "by-group") met.1)
+    × (IsTrue csv ↔ IsSet (codes "csv") met.1) × (IsTrue picture ↔ IsSet (codes "picture") met.1)
     × (option_map string_bytes script ≡ first_of (codes "script") met.1)
 IsAsked (Some met) (Import given files times kernel_threads cpus limit) =
     IsOf (codes "import") (option_map string_bytes given) met × AreFiles met.1 files

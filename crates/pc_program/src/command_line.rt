@@ -82,6 +82,8 @@ pub enum ProgramCommand {
         variants: VariantsFrom,
         /// Whether the time of each CPU is told.
         per_cpu: bool,
+        /// Whether each group of threads is told.
+        by_group: bool,
         /// Whether the table is written for other tools.
         csv: bool,
         /// Whether the waits are drawn, in place of the table.
@@ -365,6 +367,7 @@ fn lab_of(
         file,
         variants,
         per_cpu: is_set(met, "per-cpu"),
+        by_group: is_set(met, "by-group"),
         csv: is_set(met, "csv"),
         picture: is_set(met, "picture"),
         script,

@@ -262,11 +262,12 @@ fn do_command<R: Threads + Wait + Clock + Sync>(
             file,
             variants,
             per_cpu,
+            by_group,
             csv,
             picture,
             script,
         } => {
-            let wanted = LabOutput::of(per_cpu, csv, picture, script);
+            let wanted = LabOutput::of(per_cpu, by_group, csv, picture, script);
             try_on_machine(rt, file, variants, &wanted)
         }
         ProgramCommand::Run {

@@ -1,3 +1,5 @@
 -- Proofs.
+pub mod Grouping
 pub mod Lists
+pub mod Parting
 pub mod Ranks

@@ -21,7 +21,7 @@ pub struct Figures {
 }
 
 /// Every wait.
-const fn every_wait() -> Which
+pub(crate) const fn every_wait() -> Which
     ensures { result ≡ every_wait }
 {
     Which {

@@ -307,6 +307,7 @@ impl Kept {
 const FORM: Form = Form {
     layout: Layout::Csv,
     per_cpu: true,
+    by_group: true,
 };
 
 fn tables(alloc: Global, load: &Load, variants: &Variants) -> Result<bool, CompareFault> {

@@ -135,9 +135,9 @@ enum Asked {
     Run(ReportForm, Option<u32>),
     Tally(Seeds),
     Session(bool),
-    /// Whether other variants are tried, whether the time of each CPU is told, whether for other tools, and whether the
-    /// waits are drawn.
-    Lab(bool, bool, bool, bool),
+    /// Whether other variants are tried, whether the time of each CPU is told, whether each group, whether for other
+    /// tools, and whether the waits are drawn.
+    Lab(bool, [bool; 4]),
     /// Of which CPUs, and of how many events at most; which files are named, and which flags are set.
     Import(Option<Interval>, Option<u64>, [bool; 4], [bool; 2]),
 }
@@ -162,13 +162,14 @@ fn read_off(
             file,
             variants,
             per_cpu,
+            by_group,
             csv,
             picture,
             ..
-        } => Ok((
-            Asked::Lab(are_others(&variants), per_cpu, csv, picture),
-            file,
-        )),
+        } => {
+            let flags = [per_cpu, by_group, csv, picture];
+            Ok((Asked::Lab(are_others(&variants), flags), file))
+        }
         ProgramCommand::Import {
             file,
             files,
@@ -375,24 +376,27 @@ static COMMANDS: [(&[&str], Asked, Option<&str>); 29] = [
         Asked::Session(true),
         Some("a.script"),
     ),
-    (
-        &["pc-sim", "lab", "-"],
-        Asked::Lab(false, false, false, false),
-        None,
-    ),
+    (&["pc-sim", "lab", "-"], Asked::Lab(false, [false; 4]), None),
     (
         &["pc-sim", "lab", "l.toml", "--per-cpu", "--variants", "-"],
-        Asked::Lab(true, true, false, false),
+        Asked::Lab(true, [true, false, false, false]),
         Some("l.toml"),
     ),
     (
-        &["pc-sim", "lab", "--variants=v.toml", "--csv", "l.toml"],
-        Asked::Lab(true, false, true, false),
+        &[
+            "pc-sim",
+            "lab",
+            "--variants=v.toml",
+            "--csv",
+            "l.toml",
+            "--by-group",
+        ],
+        Asked::Lab(true, [false, true, true, false]),
         Some("l.toml"),
     ),
     (
         &["pc-sim", "lab", "--picture", "l.toml"],
-        Asked::Lab(false, false, false, true),
+        Asked::Lab(false, [false, false, false, true]),
         Some("l.toml"),
     ),
     (

@@ -109,7 +109,8 @@ Examples:
   pc-sim lab load.toml --picture >waits.svg
   pc-sim lab load.toml --script fifo | pc-sim explain
 
-Where --script stands, --picture, --per-cpu and --csv change nothing; where --picture stands, these two.
+Where --script stands, --picture, --per-cpu, --by-group and --csv change nothing; where --picture stands,
+these three.
 Exit status: 0 finished; 1 the load or the variants have a fault, or a read or a write failed; 4 memory
 is wanting.
 Loads, variants and the table are described in docs/LAB.md.";
@@ -157,6 +158,9 @@ const VARIANTS: &str =
     "tries the variants of this text in place of the load's own; `-` is the standard input";
 
 const EACH_CPU: &str = "also tells where the time of each CPU went";
+
+const EACH_GROUP: &str =
+    "also tells how long the threads of each group waited, and how long they ran";
 
 const CSV: &str = "writes the table on its side, with all percentiles, for other tools";
 
@@ -381,7 +385,7 @@ fn session_parser<'a>(alloc: Global) -> Result<Parser<'a>, AllocError>
     with_flag(parser, alloc, "explain", EXPLAINS)
 }
 
-/// `lab [FILE] [--variants FILE] [--per-cpu] [--csv] [--picture] [--script NAME]`
+/// `lab [FILE] [--variants FILE] [--per-cpu] [--by-group] [--csv] [--picture] [--script NAME]`
 #[inline(never)]
 fn lab_parser<'a>(alloc: Global) -> Result<Parser<'a>, AllocError>
     ensures { IfOk result (λ parser. app_of parser ≡ lab) }
@@ -392,13 +396,15 @@ fn lab_parser<'a>(alloc: Global) -> Result<Parser<'a>, AllocError>
     with_option(parser, alloc, "script", "NAME", SCRIPT_OF)
 }
 
-/// Adds `[--per-cpu] [--csv] [--picture]`, by which a comparison of the lab is told.
+/// Adds `[--per-cpu] [--by-group] [--csv] [--picture]`, by which a comparison of the lab is told.
 #[inline(never)]
 fn with_table_forms<'a>(parser: Parser<'a>, alloc: Global) -> Result<Parser<'a>, AllocError>
-    ensures { IfOk result (λ more. app_of more ≡ with_rule (with_rule
-        (with_rule (app_of parser.entry) (flag (codes "per-cpu"))) (flag (codes "csv"))) (flag (codes "picture"))) }
+    ensures { IfOk result (λ more. app_of more ≡ with_rule (with_rule (with_rule
+        (with_rule (app_of parser.entry) (flag (codes "per-cpu"))) (flag (codes "by-group"))) (flag (codes "csv")))
+        (flag (codes "picture"))) }
 {
     let parser = with_flag(parser, alloc, "per-cpu", EACH_CPU)?;
+    let parser = with_flag(parser, alloc, "by-group", EACH_GROUP)?;
     let parser = with_flag(parser, alloc, "csv", CSV)?;
     with_flag(parser, alloc, "picture", WAITS)
 }
