@@ -24,13 +24,13 @@ import rig
 from kernel import ORDERS, WORD32, answered, ticks_of
 from reference.lab import STEALS, TIMES, Run, Variant, csv_of, load_of, replies_of, runs_of, script_of, table_of, unknown_keys
 from rig import ROOT, good, outcome, same
-from tables import drawn_load, drawn_rank, drawn_threads, thread, variant
+from tables import drawn_load, drawn_rank, drawn_threads, table, thread, variant
 
 ROWS, BAD = ROOT / "examples/lab/worked", ROOT / "tests/lab_faults"
 LOADS, WIDE, MISSPELT = 60, 100, 200
 # How many worked files end like this, and how many rows tests/lab_faults/expected has.
 FILES = {".toml": 8, ".table": 8, ".csv": 8, ".script": 20, ".replies": 20, ".groups": 2}
-FAULTS, MOST_BYTES = 66, 16_777_216
+FAULTS, MOST_BYTES = 84, 16_777_216
 
 
 def files(suffix: str) -> list[pathlib.Path]:
@@ -82,6 +82,22 @@ def test_reference_scripts_and_what_they_are_answered() -> None:
         same(script_of(scripts[script.stem]), script.read_text(), script.name)
         same(replies_of(scripts[script.stem]), script.with_suffix(".replies").read_text(), script.name)
         same(rig.replay(script.read_text()), script.with_suffix(".replies").read_text(), script.name)
+
+
+def recorded(text: str) -> str:
+    """A load with each key that a recording fills in, and its masks as texts."""
+    load = tomllib.loads(text)
+    rows = [f"{key} = {load[key]}\n" for key in ("cpus", "until") if key in load]
+    for plan in load.get("thread", []):
+        mask = ",".join(str(cpu) for cpu in range(64) if plan["mask"] >> cpu & 1)
+        wakers = [f"0 0 0; 4095 99999 {WORD32}" for step in plan["steps"] if step.startswith("block")]
+        rows.append(table("thread", **plan | {"mask": mask, "name": "ä", "pid": WORD32, "group": "g", "wakers": wakers}))
+    return "".join([*rows, *(table("variant", **row) for row in load.get("variant", []))])
+
+
+def test_what_was_recorded_changes_no_run() -> None:
+    for load in files(".toml"):
+        same(told(recorded(load.read_text())), load.with_suffix(".table").read_text(), load.name)
 
 
 def test_each_cpu_is_accounted_for() -> None:

@@ -88,7 +88,7 @@ pub struct ThreadLoad {
     pub level: u8,
     /// For how many ticks it is blocked behind its first block, its second, ..: none where fewer are told.
     pub sleeps: Vec<u32>,
-    /// What it is called on the machine that was recorded, in at most [`MOST_LABEL`] bytes; empty where nothing is told.
+    /// What it is called on the machine that was recorded: at most [`MOST_LABEL`] bytes, and none where none are told.
     pub name: String,
     /// Its number there; 0 where none is told.
     pub pid: u32,

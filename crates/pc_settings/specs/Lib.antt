@@ -1,4 +1,5 @@
 -- What the TOML texts of the program spell, and what is wrong with a text.
+pub mod CpuTexts
 pub mod Fields
 pub mod Inner
 pub mod Keys
@@ -9,4 +10,5 @@ pub mod SettingsText
 pub mod Steps
 pub mod UnknownKeys
 pub mod UnknownWords
+pub mod Wakings
 pub mod Words

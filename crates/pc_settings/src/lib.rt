@@ -1,6 +1,7 @@
 //! Settings of runs, and loads and variants of the lab, as TOML texts.
 #![tactic(auto)]
 
+mod cpu_texts;
 mod field;
 mod input;
 mod keys;
@@ -12,6 +13,7 @@ mod shared_keys;
 mod steps;
 mod trouble;
 mod unknown;
+mod wakings;
 
 pub use field::Field;
 pub use input::{TextFault, Unread, read_utf8};

@@ -32,6 +32,10 @@ fn draft_of(alloc: Global, ticks: u32) -> Result<ThreadDraft, LabFault> {
         start: 0,
         level: 0,
         sleeps: Vec::new(alloc),
+        name: String::new(alloc),
+        pid: 0,
+        group: String::new(alloc),
+        wakers: Vec::new(alloc),
     })
 }
 

@@ -1,11 +1,11 @@
--- The keys that settings of a run and loads share, and what they tell.
+-- The keys of a thread of a run, and what they tell.
 use Rattle.std.specs.Prelude.{ℕ, ℤ, ◌≡◌, List, [], ◌∷◌, map, Option, Some, Result, Ok, Err, codes}
 use Rattle.toml.specs.Data.{Members}
 use Rattle.pc_settings.specs.Keys.{first_some, integer_at, texts_at, unless}
 use Rattle.pc_settings.specs.Inner.Values.{text_in}
 use Rattle.pc_settings.specs.declared.field.Field.{Field}
 use Rattle.pc_settings.specs.declared.field.Field.TheVariants.{Queue, Mask, Steps}
-use Rattle.pc_settings.specs.declared.shared_keys.ThreadKeys.{ThreadKeys}
+use Rattle.pc_settings.specs.declared.runs.thread_keys.ThreadKeys.{ThreadKeys}
 
 -- what the keys of a thread tell; its steps are texts
 pub record Told : Type 0 where
