@@ -1,10 +1,6 @@
 -- Groups, as a loop over threads finds them.
 use Rattle.std.proofs.Common.{◌≡◌, ◌<◌, ◌+◌, ◌∙◌, ℕ, List, [], ◌∷◌, ◌++◌, Bool, cond, not, length, get_or, map, take, refl, sym, ap, string_bytes, nat_lt, Some, None}
-<<<<<<< HEAD
-use Rattle.std.specs.Prelude.{position, bytes_eq, fold}
-=======
 use Rattle.std.specs.Prelude.{position, bytes_eq}
->>>>>>> cfe9e5a99dcaa2daf26d7d42635f31984f96b9c1
 use Rattle.std.specs.List.{position_or_len}
 use Rattle.std.specs.Ordering.{match_ordering, nat_cmp}
 use Rattle.std.specs.Cmp.Lexicographic.{slice_cmp}

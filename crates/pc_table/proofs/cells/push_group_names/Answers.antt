@@ -1,8 +1,4 @@
-<<<<<<< HEAD
-use Rattle.std.proofs.Common.{◌≡◌, ◌∙◌, ◌++◌, ◌∷◌, [], List, map, sym, ap, append_assoc}
-=======
 use Rattle.std.proofs.Common.{◌≡◌, ◌∙◌, ◌++◌, ◌∷◌, [], map, sym, ap, append_assoc}
->>>>>>> cfe9e5a99dcaa2daf26d7d42635f31984f96b9c1
 use Rattle.pc_table.proofs.Lists.{mapped_end}
 use Rattle.pc_table.specs.Groups.{front_of}
 use Rattle.pc_table.specs.Percentiles.{every_wait}

@@ -1,8 +1,4 @@
-<<<<<<< HEAD
-use Rattle.std.proofs.Common.{◌≡◌, ◌≤◌, ◌∙◌, ◌++◌, List, [], ℕ, map, get_or, ap, sym, arith, append_assoc}
-=======
 use Rattle.std.proofs.Common.{◌≤◌, ◌∙◌, ◌++◌, List, [], ℕ, map, get_or, ap, sym, arith, append_assoc}
->>>>>>> cfe9e5a99dcaa2daf26d7d42635f31984f96b9c1
 use Rattle.std.specs.List.{flat_map, range_with_len}
 use Rattle.pc_table.proofs.Lists.{over_more}
 use Rattle.pc_table.specs.Groups.{told_of_group}
