@@ -1,7 +1,7 @@
 //! The axis of a script's picture: by what its steps stand from left to right.
 //!
-//! A comment `# at TICK` in front of a command tells when it happens. The ticks of steps, and from when on or up to when
-//! a CPU is recorded, are kept where they are asked for alone.
+//! A comment `# at TICK` in front of a command tells when it happens. The ticks of steps, and from when on or up to
+//! when a CPU is recorded, are kept where they are asked for alone.
 
 use crate::step::Step;
 use pc_messages::Cpu;
