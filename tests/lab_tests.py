@@ -107,7 +107,7 @@ def test_each_cpu_is_accounted_for() -> None:
     same({name: rows[name] for name in wanted}, wanted)
 
 
-@rig.each({"the reference": lambda load, runs: table_of(runs, by_group=True), "the program": lambda load, runs: good(lab(load.name, "--by-group"))})
+@rig.each({"the reference": (lambda load, runs: table_of(runs, by_group=True),), "the program": (lambda load, runs: good(lab(load.name, "--by-group")),)})
 def test_groups(made: Callable[[pathlib.Path, list[Run]], str]) -> None:
     for wanted in files(".groups"):
         load = wanted.with_suffix(".toml")

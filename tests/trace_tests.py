@@ -121,11 +121,11 @@ def test_what_is_read_is_not_written_over():
 
 
 def test_times_of_recordings():
-    """They ascend, and are all that --times adds."""
+    """They ascend, and are all that --times adds, but for where CPUs begin and end to be recorded."""
     for path in sorted((ROOT / "examples/recordings").glob("*.txt")):
         plain, timed = (rig.ask("import", path, "--script", "-", *words, check=True).stdout.splitlines() for words in ([], ["--times"]))
         times = [int(line.split()[2]) for line in timed if line.startswith("# at ")]
-        same([line for line in timed if not line.startswith("# at ")], plain)
+        same([line for line in timed if not re.match("# at |# CPU .* is recorded", line)], plain)
         same((times, times[0]), (sorted(set(times)), 0))
         rows = traced("\n".join(timed) + "\n")
         assert len(times) > 50 and Counter(row["ph"] for row in rows)["X"] > 50, path.name
