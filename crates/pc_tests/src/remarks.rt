@@ -46,14 +46,14 @@ struct Told {
 }
 
 /// A thread as the names of the text tell it.
-fn told(alloc: Global, thread: u32) -> Result<String, AllocError> {
+fn text_of_thread(alloc: Global, thread: u32) -> Result<String, AllocError> {
     let names = Names::in_text(alloc, TEXT.as_bytes())?;
     names.thread(Tid(thread)).to_string(alloc)
 }
 
 impl Row for Told {
     fn holds(&self, alloc: Global) -> bool {
-        match told(alloc, self.thread) {
+        match text_of_thread(alloc, self.thread) {
             Ok(text) => text.as_str() == self.text,
             Err(_) => false,
         }
