@@ -109,12 +109,16 @@ impl<'r> Translator<'r> {
 
     /// Tells where CPUs began and ended to be recorded before a time.
     fn tell_edges(&mut self, time: u64) -> Result<(), AllocError> {
-        while let Some((at, edge)) = self.edges.get(self.edges_told) {
-            if !edge.is_before(*at, time) {
+        for place in self.edges_told..self.edges.len() {
+            let Some(found) = self.edges.get(place) else {
+                return Ok(());
+            };
+            let (at, edge) = (found.0, found.1);
+            if !edge.is_before(at, time) {
                 return Ok(());
             }
-            self.asker.tell_edge(ticks(self.begin, *at), *edge)?;
-            self.edges_told = self.edges_told.saturating_add(1);
+            self.asker.tell_edge(ticks(self.begin, at), edge)?;
+            self.edges_told = place.saturating_add(1);
         }
         Ok(())
     }
