@@ -189,11 +189,11 @@ impl Asker {
     }
 
     /// Tells from where on, or up to where, a CPU is recorded, where the script tells times.
-    pub(crate) fn tell_edge(&mut self, tick: u64, edge: Edge) -> Result<(), AllocError> {
+    pub(crate) fn tell_edge(&mut self, tick: u64, edge: &Edge) -> Result<(), AllocError> {
         match &mut self.told {
             Some(told) if told.tells_times => {
                 if told.begin(tick)? {
-                    told.lines.push_edge(edge)?;
+                    told.lines.push_edge(*edge)?;
                 }
                 Ok(())
             }

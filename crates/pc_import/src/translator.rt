@@ -113,11 +113,11 @@ impl<'r> Translator<'r> {
             let Some(found) = self.edges.get(place) else {
                 return Ok(());
             };
-            let (at, edge) = (found.0, found.1);
-            if !edge.is_before(at, time) {
+            let (at, edge) = found;
+            if !edge.is_before(*at, time) {
                 return Ok(());
             }
-            self.asker.tell_edge(ticks(self.begin, at), edge)?;
+            self.asker.tell_edge(ticks(self.begin, *at), edge)?;
             self.edges_told = place.saturating_add(1);
         }
         Ok(())
