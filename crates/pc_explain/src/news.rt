@@ -136,7 +136,7 @@ struct RangeInWords<'n> {
 
 impl fmt::Display for RangeInWords<'_> {
     fn fmt<W: fmt::Write>(&self, f: &mut fmt::Formatter<W>) -> fmt::Result {
-        let thread = self.thread;
+        let thread = &self.thread;
         let from = self.from;
         let to = self.to;
         if from == to {

@@ -67,16 +67,21 @@ fn changed(text: &mut Sentences<'_>, call: &EnvCall, posted: &Posted) -> fmt::Re
     }
 }
 
-/// A thread that left its CPU.
-fn left(text: &mut Sentences<'_>, thread: NamedThread<'_>, how: &Left) -> fmt::Result {
-    let cpu = how.cpu.index();
-    let ticks = Count(u64::from(how.ran), "tick");
-    let state = match how.leaving {
+/// What a thread is that left its CPU so.
+fn state_behind(leaving: Leaving) -> &'static str {
+    match leaving {
         Leaving::Yield => "stays ready: it yielded",
         Leaving::Block => "is blocked",
         Leaving::Preempt => "stays ready: it was preempted",
         Leaving::Die => "is dead",
-    };
+    }
+}
+
+/// A thread that left its CPU.
+fn left(text: &mut Sentences<'_>, thread: NamedThread<'_>, how: &Left) -> fmt::Result {
+    let cpu = how.cpu.index();
+    let ticks = Count(u64::from(how.ran), "tick");
+    let state = state_behind(how.leaving);
     writeln!(
         text,
         "Thread {thread} leaves CPU {cpu}, which is idle now, after {ticks}, and {state}."
