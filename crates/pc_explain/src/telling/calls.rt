@@ -4,7 +4,6 @@ use crate::sentences::Sentences;
 use crate::words::{Count, Cpus};
 use pc_calls::{EnvCall, Leaving, Left, Posted};
 use pc_messages::{Phase, Tid};
-use pc_remarks::NamedThread;
 use std::fmt::{self, Write};
 
 /// A call that posted an item.
@@ -34,7 +33,8 @@ pub(super) fn posted(text: &mut Sentences<'_>, call: &EnvCall, posted: &Posted) 
 /// What the call changed.
 fn changed(text: &mut Sentences<'_>, call: &EnvCall, posted: &Posted) -> fmt::Result {
     // A tick, of which no thread is told, has none.
-    let thread = text.thread(posted.thread.unwrap_or(Tid(0)));
+    let changed = posted.thread.unwrap_or(Tid(0));
+    let thread = text.thread(changed);
     match call {
         EnvCall::Create { mask, ready, .. } => {
             let phase = if *ready { Phase::Ready } else { Phase::Blocked };
@@ -61,7 +61,7 @@ fn changed(text: &mut Sentences<'_>, call: &EnvCall, posted: &Posted) -> fmt::Re
         | EnvCall::Block { .. }
         | EnvCall::Preempt { .. }
         | EnvCall::Die { .. } => match call.left() {
-            Some(how) => left(text, thread, &how),
+            Some(how) => left(text, changed, &how),
             None => Ok(()),
         },
     }
@@ -78,7 +78,8 @@ fn state_behind(leaving: Leaving) -> &'static str {
 }
 
 /// A thread that left its CPU.
-fn left(text: &mut Sentences<'_>, thread: NamedThread<'_>, how: &Left) -> fmt::Result {
+fn left(text: &mut Sentences<'_>, thread: Tid, how: &Left) -> fmt::Result {
+    let thread = text.thread(thread);
     let cpu = how.cpu.index();
     let ticks = Count(u64::from(how.ran), "tick");
     let state = state_behind(how.leaving);
