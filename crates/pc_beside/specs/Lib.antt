@@ -1,0 +1,3 @@
+-- How far numbers are from others.
+pub mod Inner
+pub mod Means
