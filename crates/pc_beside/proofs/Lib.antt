@@ -1,3 +1,0 @@
--- Proofs.
-pub mod Products
-pub mod Values

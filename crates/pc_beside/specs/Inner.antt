@@ -1,2 +1,0 @@
--- What private functions cite.
-pub mod Digits

@@ -1,3 +1,0 @@
--- How far numbers are from others.
-pub mod Inner
-pub mod Means
