@@ -294,7 +294,7 @@ class Checker:
 
     def check_crates(self):
         # Counts of what may wait may stand behind a name.
-        rows = re.findall(r"^(\w+)(?: .*?)?: ?(.*)$", (ROOT / "crates.txt").read_text(), re.M)
+        rows = re.findall(r"^(\w+)(?: .*?)?: (.*)$", (ROOT / "crates.txt").read_text(), re.M)
         below = {name: set(libraries.split()) for name, libraries in rows if name in self.crates}
         told = {named[1] for item in items_of("docs/ARCHITECTURE.md", []) if (named := re.match(r"`(pc_\w+)`: ", item.text))}
         self.expect(told == set(self.crates) == set(below), "docs/ARCHITECTURE.md", "its crates are not those of crates.txt")

@@ -84,17 +84,12 @@ def test_files_are_completed() -> None:
         "run --script examples/fir": "examples/first-run.script",
         "lab --csv examples/ste": "examples/steals-and-restarts.toml", "lab --variants examples/lab/v": "examples/lab/variants.toml",
         "lab --script f": "", "replay exam": "examples", "replay CHANGE": "CHANGELOG.md",
-        "import examples/recordings/p": "examples/recordings/python-pool.txt", "import --script examples/fir": "examples/first-run.script",
-        "import --load examples/ste": "examples/steals-and-restarts.toml",
-        "import --settings examples/recordings/p": "examples/recordings/python-pool.toml",
-        "import --waits CHANGE": "CHANGELOG.md", "import --cpus e": "", "import --limit e": "",
     }.items():
         same(bash(*words.split()), wanted.split(), words)
     same(set(bash("run", "--policy", "")), {order + exact for order in ORDERS for exact in ("", "\\ exact")})
     if fish in SHELLS:
         same(fish("replay", "examples/fir")[0], "examples/first-run.script")
         same(fish("run", "examples/ste")[0], "examples/steals-and-restarts.toml")
-        same(fish("import", "examples/recordings/p")[0], "examples/recordings/python-pool.txt")
 
 
 def test_bash_completes_by_the_function() -> None:

@@ -87,7 +87,7 @@ def test_each_example_is_drawn_as_it_is_answered() -> None:
             story, picture = story_of(file.read_text()), draw(file.read_text())
             same(picture.title, story.heading)
             if story.commands <= MOST_SINGLE:
-                same(picture.told(r"(?:.+ )?t\d+ on CPU \d+, (?:lines \d+ to \d+|line \d+)"), story.runs)
+                same(picture.told(r"t\d+ on CPU \d+, (?:lines \d+ to \d+|line \d+)"), story.runs)
                 same(len(picture.told(r"crash\b.*, line \d+.*")), story.done["crash"])
 
 
@@ -232,13 +232,12 @@ def axis_is_told(numbers: list[Words], lines: list[int], wide: int) -> None:
 
 
 def names_are_in_bars(picture: Picture) -> None:
-    """A thread's name stands in a bar of that thread: all of it, or its number alone, as there is room."""
-    bars = [(found[1], bar) for found, bar in picture.found(r"((?:.+ )?t\d+) on CPU.*") if bar.tag == SVG + "rect"]
-    for words in (words for words in picture.words if re.fullmatch(r"(?:.+ )?t\d+", words.text)):
-        inside = [(name, edges_of(bar)) for name, bar in bars if edges_of(bar)[0] <= words.x <= edges_of(bar)[1]
+    """A thread's name stands in a bar of that thread."""
+    bars = [(found[1], bar) for found, bar in picture.found(r"(t\d+) on CPU.*") if bar.tag == SVG + "rect"]
+    for words in (words for words in picture.words if re.fullmatch(r"t\d+", words.text)):
+        inside = [name for name, bar in bars if edges_of(bar)[0] <= words.x <= edges_of(bar)[1]
                   and 0 <= words.y - float(bar.get("y")) <= float(bar.get("height"))]
-        [(name, (left, right))] = inside
-        same(words.text, name if right - left >= 5 + 7 * len(name) else name.split()[-1])
+        same(inside, [words.text])
 
 
 def test_the_words_of_a_picture_are_those_that_replay_answers() -> None:

@@ -16,7 +16,6 @@ from rig import ROOT, differ, matches, same
 import fuzz
 import growths
 import loads
-import recordings
 import settings
 import streams
 import subjects
@@ -119,34 +118,6 @@ def test_drawn_loads():
     differ(every[7], every[8])
     for words in loads.WORST:
         matches(loads.fault_of_worst(machine(), words), "status 0")
-
-
-def test_drawn_recordings():
-    """A program that answers each line of a recording `ok`, or fails without a word, makes no text of it."""
-    matches(recordings.fault_of_drawn(machine(), 0), "more is written than was asked for")
-    matches(recordings.fault_of_drawn(machine(), 1), "status 1")
-    matches(recordings.fault_of_part(machine(), (0, 300)), "status 1")
-    every = [recordings.drawn_recording(place) for place in range(300)]
-    same(every[7], recordings.drawn_recording(7))
-    differ(every[7], every[8])
-    texts = [text for text, _ in every]
-    assert any(len(line) > 65_536 for text in texts for line in text.split(b"\n"))
-    for some in (b"\0", b"\r\n", b"\xff", b"LOST", b"[120] S ==> ", b" prev_state=S ==> ", b"17000000"):
-        assert any(some in text for text in texts), some
-
-
-def test_texts_that_a_recording_may_not_make():
-    for name, said in {
-        "script": "the script: status 1", "load": "the load: status 1", "settings": "the settings: status 1", "waits": "the waits are no table",
-    }.items():
-        with rig.folder() as place:
-            for text in recordings.TEXTS:
-                same(rig.ask("import", f"--{text}", place / text, given=recordings.PARTED[0].decode()).returncode, 0)
-            same(recordings.fault_of_made(Machine(rig.program, folder()), place), None)
-            (place / name).write_text("no such text\n")
-            for text in {"load", "script"} - {name}:
-                same(rig.ask("import", f"--{text}", place / text, given=recordings.PARTED[0].decode()).returncode, 0)
-            assert (recordings.fault_of_made(Machine(rig.program, folder()), place) or "").startswith(said), name
 
 
 def test_each_malformed_text_is_a_subject_of_growths():

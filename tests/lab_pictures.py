@@ -304,7 +304,7 @@ def test_what_wins():
     """A script that is named goes before a picture, and a picture before a table."""
     load = (WORKED / "2-steals.toml").read_text()
     picture, script = drawn(load), script_of(next(run for run in runs_of(load) if run.variant.name == "alone"))
-    same(drawn(load, "--csv", "--per-cpu", "--by-group"), picture)
+    same(drawn(load, "--csv", "--per-cpu"), picture)
     same(good(rig.ask("lab", WORKED / "2-steals.toml", "--picture")), picture)
     same(drawn(load, "--script", "alone"), script)
     same(drawn(load, "--csv", "--script", "alone", "--per-cpu"), script)

@@ -24,13 +24,13 @@ import rig
 from kernel import ORDERS, WORD32, answered, ticks_of
 from reference.lab import STEALS, TIMES, Run, Variant, csv_of, load_of, replies_of, runs_of, script_of, table_of, unknown_keys
 from rig import ROOT, good, outcome, same
-from tables import drawn_load, drawn_rank, drawn_threads, table, thread, variant
+from tables import drawn_load, drawn_rank, drawn_threads, thread, variant
 
 ROWS, BAD = ROOT / "examples/lab/worked", ROOT / "tests/lab_faults"
 LOADS, WIDE, MISSPELT = 60, 100, 200
 # How many worked files end like this, and how many rows tests/lab_faults/expected has.
-FILES = {".toml": 8, ".table": 8, ".csv": 8, ".script": 20, ".replies": 20, ".groups": 2}
-FAULTS, MOST_BYTES = 84, 16_777_216
+FILES = {".toml": 8, ".table": 8, ".csv": 8, ".script": 20, ".replies": 20}
+FAULTS, MOST_BYTES = 66, 16_777_216
 
 
 def files(suffix: str) -> list[pathlib.Path]:
@@ -84,22 +84,6 @@ def test_reference_scripts_and_what_they_are_answered() -> None:
         same(rig.replay(script.read_text()), script.with_suffix(".replies").read_text(), script.name)
 
 
-def recorded(text: str) -> str:
-    """A load with each key that a recording fills in, and its masks as texts."""
-    load = tomllib.loads(text)
-    rows = [f"{key} = {load[key]}\n" for key in ("cpus", "until") if key in load]
-    for plan in load.get("thread", []):
-        mask = ",".join(str(cpu) for cpu in range(64) if plan["mask"] >> cpu & 1)
-        wakers = [f"0 0 0; 4095 99999 {WORD32}" for step in plan["steps"] if step.startswith("block")]
-        rows.append(table("thread", **plan | {"mask": mask, "name": "ä", "pid": WORD32, "group": "g", "wakers": wakers}))
-    return "".join([*rows, *(table("variant", **row) for row in load.get("variant", []))])
-
-
-def test_what_was_recorded_changes_no_run() -> None:
-    for load in files(".toml"):
-        same(told(recorded(load.read_text())), load.with_suffix(".table").read_text(), load.name)
-
-
 def test_each_cpu_is_accounted_for() -> None:
     """Two CPUs, eight threads of 10 ticks on the first, and no steals: worked out by hand."""
     rows = {line[:26].strip(): line[26:].split() for line in table_of(runs_of((ROWS / "2-steals.toml").read_text()), True).splitlines()}
@@ -107,27 +91,8 @@ def test_each_cpu_is_accounted_for() -> None:
     same({name: rows[name] for name in wanted}, wanted)
 
 
-@rig.each({"the reference": (lambda load, runs: table_of(runs, by_group=True),), "the program": (lambda load, runs: good(lab(load.name, "--by-group")),)})
-def test_groups(made: Callable[[pathlib.Path, list[Run]], str]) -> None:
-    for wanted in files(".groups"):
-        load = wanted.with_suffix(".toml")
-        same(made(load, runs_of(load.read_text())), wanted.read_text(), wanted.name)
-
-
-def test_the_names_of_groups() -> None:
-    """Worked out by hand: a group of 64 bytes, one whose name is the CSV's own signs, and what `until` cuts off."""
-    threads = thread(0, 1, "die 30", name="n" * 64) + thread(0, 1, "die 5", name="x", group='a,"b\t') + thread(0, 1, "die 5", group="")
-    load = "cpus = 1\nuntil = 12\n" + threads + variant("fifo", order="fifo")
-    rows = [line.rsplit(None, 1) for line in told(load, "--by-group").splitlines()]
-    kinds = ("wait p50", "wait p90", "wait p99", "wait max", "wait sum", "ticks ran")
-    wanted = [("-", 12, 0), ('a,"b?', 12, 0), ("n" * 64, 0, 12)]
-    same(rows[-18:], [[f"{group}: {kind}", str(ran if kind == "ticks ran" else wait)] for group, wait, ran in wanted for kind in kinds])
-    head, line = csv.reader(told(load, "--by-group", "--csv").splitlines())
-    same((head[-12], head[-1], line[-1]), ("a__b?:_wait_p50", f"{'n' * 64}:_ticks_ran", "12"))
-
-
 def test_scripts() -> None:
-    for script, more in itertools.product(files(".script"), ([], ["--csv", "--per-cpu", "--by-group"])):
+    for script, more in itertools.product(files(".script"), ([], ["--csv", "--per-cpu"])):
         load, _, name = script.stem.partition(".")
         same(good(lab(f"{load}.toml", "--script", name, *more)), script.read_text(), script.name)
 
@@ -276,9 +241,7 @@ def test_drawn_loads() -> None:
             words = ["--variants", file] if variants else []
             where = file if variants else None
             stall = stall_of(runs, where)
-            both = ("--per-cpu", "--by-group")
-            for flags, wanted in (((), table_of(runs)), (("--per-cpu",), table_of(runs, True)), (("--per-cpu", "--csv"), csv_of(runs, True)),
-                                  (both, table_of(runs, True, True)), ((*both, "--csv"), csv_of(runs, True, True))):
+            for flags, wanted in (((), table_of(runs)), (("--per-cpu",), table_of(runs, True)), (("--per-cpu", "--csv"), csv_of(runs, True))):
                 same(outcome(lab("-", *words, *flags, given=load)), (0, wanted, stall), load)
             script = outcome(lab("-", *words, "--script", "v0", given=load))
             same(script, (0, script_of(runs[0]), stall_of(runs[:1], where)), load)
@@ -295,7 +258,6 @@ def test_the_program_answers_as_runs_expect() -> None:
         same((tried.returncode, tried.stderr), (0, stall_of(runs)), text)
         for rows in (csv_of(runs, True), tried.stdout):
             balances(rows, text)
-        shares(lab("-", "--by-group", "--csv", given=text).stdout, text)
 
 
 def balances(told: str, text: str) -> None:
@@ -309,15 +271,6 @@ def balances(told: str, text: str) -> None:
             same(sum(int(row[f"cpu_{cpu}_{what}"]) for what in ("ran", "in_turns", "idle")), int(row["makespan"]), text)
         if row["end"] == "done":
             same(int(row["ticks_ran"]), sum(ticks for plan in load.plans for _, ticks in plan.steps), text)
-
-
-def shares(told: str, text: str) -> None:
-    """All groups together ran for the ticks that all CPUs ran."""
-    head, *rows = csv.reader(told.splitlines())
-    of_groups = [place for place, name in enumerate(head) if name.endswith(":_ticks_ran")]
-    same(len(of_groups), len({plan.kin for plan in load_of(text).plans}), text)
-    for row in rows:
-        same(sum(int(row[place]) for place in of_groups), int(row[head.index("ticks_ran")]), text)
 
 
 def wide_load(chance: random.Random) -> str:

@@ -171,7 +171,7 @@ def test_it_is_installed_and_removed_without_a_trace() -> None:
     assert os.access(root / "usr/bin/pc-sim", os.X_OK)
     # A tool and the client, so that Python keeps what it compiled beside them.
     modules = root / "usr/lib/python3/dist-packages"
-    for words in ([root / "usr/bin/pc-sim-to-trace", "--help"], ["-c", "import nimhessian"]):
+    for words in ([root / "usr/bin/pc-sim-from-perf-sched", "--help"], ["-c", "import nimhessian"]):
         good(run(sys.executable, *words, env={"PATH": "", "PYTHONPATH": str(modules)}))
     for folder in (root / "usr/share/pc-sim", modules / "nimhessian"):
         assert (folder / "__pycache__").is_dir(), folder

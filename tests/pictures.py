@@ -9,7 +9,7 @@ from dataclasses import dataclass, field
 from typing import NamedTuple
 
 import rig
-from kernel import LEAVES, Talk, World, answered, is_asked, names_of, told_of
+from kernel import LEAVES, Talk, World, answered, is_asked, told_of
 from rig import ROOT, outcome, same
 from scripts import Rough, lines_of, mended
 
@@ -27,7 +27,7 @@ SINGLE_WORDS = "Lines of the script from left to right, a column for each comman
 # What the titles of bars say. What is shown at a CPU is one of these: who runs, how many threads wait there, how many items its queue
 # holds, whether its agent sleeps, and, while it idles, how many threads wait anywhere.
 ROWS = {
-    "runs": rf"(?:.+ )?t(?P<value>\d+) on CPU (?P<cpu>\d+), {LINES}",
+    "runs": rf"t(?P<value>\d+) on CPU (?P<cpu>\d+), {LINES}",
     "ready": rf"{WAITING.replace('(', '(?P<value>', 1)} for CPU (?P<cpu>\d+), {LINES}",
     "queue": rf"(?P<value>\d+) items? in queue (?P<cpu>\d+), {LINES}",
     "asleep": rf"agent (?P<cpu>\d+) asleep, {LINES}",
@@ -47,7 +47,7 @@ Words = NamedTuple("Words", [("x", int), ("y", int), ("text", str)])
 
 
 class Picture:
-    """A picture, taken apart. Whatever is drawn, it is ASCII, but for words of a policy and of names, has a size, and every shape says what it is."""
+    """A picture, taken apart. Whatever is drawn, it is ASCII, but for words of a policy, has a size, and every shape says what it is."""
 
     def __init__(self, text: str) -> None:
         assert {it for it in text if not it.isascii()} <= {*"\u2039\u203a"}
@@ -114,11 +114,6 @@ def look_of(element: Element) -> tuple[object, ...]:
 
 # What a script comes to
 
-def shown_thread(thread: int, names: dict[int, str]) -> str:
-    """A thread as a picture shows it: what would be markup in its name is another sign."""
-    return names[thread].translate(str.maketrans("<>&", "\u2039\u203a+")) + f" t{thread}" if thread in names else f"t{thread}"
-
-
 @dataclass
 class Story:
     """What happens in a script, from its lines and their answers."""
@@ -131,7 +126,6 @@ class Story:
     done: Counter[str] = field(default_factory=Counter)  # by its first word, what was accepted
     posted: int = 0
     policy: str = ""
-    names: dict[int, str] = field(default_factory=dict)
 
     @property
     def heading(self) -> str:
@@ -155,12 +149,12 @@ class Story:
     def leave(self, cpu: int, number: int) -> None:
         thread, first = self.on.pop(cpu)
         lines = f"lines {first} to {number}" if first < number else f"line {first}"
-        self.runs[f"{shown_thread(thread, self.names)} on CPU {cpu}, {lines}"] += 1
+        self.runs[f"t{thread} on CPU {cpu}, {lines}"] += 1
 
 
 def story_of(script: str) -> Story:
     """The story of a script as the program answers it."""
-    told = Story(names=names_of(script))
+    told = Story()
     for each in answered(script, rig.replay(script)):
         told.take(*each)
     for cpu in list(told.on):
@@ -281,10 +275,10 @@ Bar = NamedTuple("Bar", [
     ("row", str), ("cpu", int), ("value", int), ("columns", tuple[float, float]), ("lines", tuple[int, int])])
 
 
-def bars_of(steps: Steps, cpus: int, rows: Iterable[str] = ROWS) -> Counter[Bar]:
+def bars_of(steps: Steps, cpus: int) -> Counter[Bar]:
     """The bars by which the steps are to be shown: each as long as a row shows the same, and one while a CPU idles."""
     bars, numbers = Counter(), [number for number, _ in steps]
-    for row in rows:
+    for row in ROWS:
         for cpu in range(cpus):
             values = [shown[row][cpu] if shown[row] else None for _, shown in steps]
             kinds = [value if row != "idle" or value is None else "idle" for value in values]
@@ -297,9 +291,9 @@ def bars_of(steps: Steps, cpus: int, rows: Iterable[str] = ROWS) -> Counter[Bar]
     return bars
 
 
-def bars_told(picture: Picture, more: str = "", rows: dict[str, str] = ROWS) -> Iterator[tuple[Bar, tuple[int, int]]]:
+def bars_told(picture: Picture, more: str = "") -> Iterator[tuple[Bar, tuple[int, int]]]:
     """The bars that a picture shows, by where they are, and what their titles tell last: their lines, or behind these what `more` finds."""
-    for row, pattern in rows.items():
+    for row, pattern in ROWS.items():
         for match, element in picture.found(pattern + more):
             ends = match.groups()[-4 if more else -2:]
             spans = [(int(first), int(last or first)) for first, last in zip(ends[::2], ends[1::2])]

@@ -8,6 +8,7 @@ line. Picks and steals have to be common, and the order has to matter. The numbe
 import pathlib
 import random
 import re
+import sys
 from collections import Counter
 from collections.abc import Callable
 from functools import partial
@@ -166,7 +167,7 @@ def recorded_loads(folder: pathlib.Path) -> list[pathlib.Path]:
     for name in ("python-pool", "shell-pipelines"):
         loads.append(folder / f"{name}.toml")
         text = rig.ROOT / f"examples/recordings/{name}.txt"
-        made = rig.ask("import", text, "--load", loads[-1])
+        made = rig.run(sys.executable, rig.ROOT / "tools/from-perf-sched", text, "-o", folder / "script", "--load", loads[-1])
         same(made.returncode, 0, made.stderr)
     return loads
 

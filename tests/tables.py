@@ -82,8 +82,7 @@ def drawn_threads(chance: random.Random, cpus: int, count: int) -> str:
         steps = drawn_steps(chance, range(6), range(13), range(31))
         sleeps = [chance.randint(0, 20) for step in steps if step.startswith("block") and chance.random() < 0.9]
         mask, level = chance.randrange(1 << cpus) | 1 << queue, chance.choice([0, 0, 3, 7])
-        told = chance.choice([{}, {"name": "a b"}, {"name": "\u00e9t\u00e9"}, {"name": "c", "group": 'x,"y\\'}, {"name": "c", "group": ""}])
-        text += thread(queue, mask, *steps, start=start, level=level, sleeps=sleeps, **told)
+        text += thread(queue, mask, *steps, start=start, level=level, sleeps=sleeps)
     return text
 
 

@@ -9,9 +9,9 @@ from collections import Counter, defaultdict
 from collections.abc import Iterable
 
 import rig
-from kernel import WORD64, Edge, answered, ticks_of, told_edges
+from kernel import WORD64, answered, ticks_of
 from pictures import (
-    ENCLAVE, LEFT, LINES, MOST_SINGLE, ROWS, SCRIPTS, SINGLE_WORDS, SVG, WHOLE, Bar, Part, Picture, Steps, are_one, bars_of,
+    ENCLAVE, LEFT, MOST_SINGLE, ROWS, SCRIPTS, SINGLE_WORDS, SVG, WHOLE, Bar, Part, Picture, Steps, are_one, bars_of,
     bars_told, draw, drawn_script, edges_of, front_of, many, refused_words, shown_often, steps_of, story_of, x_of,
 )
 from rig import ROOT, good, outcome, same
@@ -28,13 +28,6 @@ NO_TICKS = [
 ]
 GAPS = {"few": [0, 0, 1, 1, 2, 3], "many": [0, 1, 5, 40, 700], "far": [0, 1, 1000, 10**6, 10**12]}
 TICK_WORDS = "Axis: ticks, from left to right, a column for each tick. A lane for each CPU."
-# The rows of a picture that shows where CPUs are not recorded.
-MORE_ROWS = ROWS | {"unrecorded": rf"CPU (?P<cpu>\d+) not recorded, {LINES}"}
-# What looks like a line that tells that a CPU is recorded, and tells nothing.
-NO_EDGES = [
-    "# CPU 0 is recorded", "# CPU 0 is recorded from here ", "# CPU 00 is recorded from here", "# CPU  0 is recorded from here", "#CPU 0 is recorded from here",
-    "# CPU 0 is recorded From here", "# CPU 256 is recorded from here", "# CPU -1 is recorded up to here", "# CPU 0 is recorded upto here", "# CPU 64 is recorded from here",
-]
 MARKS = ("crash", "stolen", "moved", "refused", "post", "delta")
 # How far left of its column's middle a mark begins.
 BEFORE = {"crash": 7, "stolen": 3, "moved": 1, "refused": 1}
@@ -64,10 +57,10 @@ class Axis:
         return LEFT + self.wide * self.columns
 
 
-def timed_bars(steps: Steps, cpus: int, ticks: list[int], axis: Axis, rows: Iterable[str] = ROWS) -> Counter[Timed]:
+def timed_bars(steps: Steps, cpus: int, ticks: list[int], axis: Axis) -> Counter[Timed]:
     """The bars by which the steps, which have these ticks, are to be shown. What lasts no tick is not; what lasts less than a column is as wide as one."""
     timed: Counter[Timed] = Counter()
-    for (row, cpu, value, (start, end), lines), times in bars_of(steps, cpus, rows).items():
+    for (row, cpu, value, (start, end), lines), times in bars_of(steps, cpus).items():
         is_last = end >= len(ticks)
         begins, ends = ticks[start], axis.last if is_last else ticks[end]
         if is_last or begins != ends:
@@ -167,7 +160,7 @@ def marks_by_ticks(picture: Picture, script: str, axis: Axis, ticks: dict[int, i
     told = ((number, re.fullmatch(r"ok d(\d+) items \d+", answer)) for number, _, answer in answers)
     sent, marks = {int(delta[1]): number for number, delta in told if delta}, Counter[str]()
     for text, element in picture.shapes:
-        line = re.match(r"(?:(?:.+ )?t\d+ (stolen|moved) from queue \d+ to queue \d+, )?line (\d+): (.*)", text)
+        line = re.match(r"(?:t\d+ (stolen|moved) from queue \d+ to queue \d+, )?line (\d+): (.*)", text)
         if crash := re.fullmatch(r"crash \d+, line (\d+)", text):
             marks["crash"] += 1
             same(x_of(element), (axis.middle(ticks[int(crash[1])]) - 7,), text)
@@ -194,92 +187,11 @@ def test_what_drawn_scripts_show_stands_by_its_ticks(least: int, kinds: Iterable
     shown_often(shown_by_ticks, with_ticks, DRAWN, least, kinds, parts)
 
 
-def with_edges(place: int) -> str:
-    """A drawn script with lines that tell ticks, and others that tell what is recorded, most of them of a CPU that is there."""
-    chance, lines = random.Random(f"edges {place}"), []
-    for line in with_ticks(place).splitlines():
-        if chance.random() < 0.15:
-            told = f"# CPU {chance.choice([0, 0, 1, 1, 2, 3, 9])} is recorded {chance.choice(['from', 'up to'])} here"
-            lines.append(chance.choice([told] * 9 + NO_EDGES[:1]))
-        lines.append(line)
-    return "\n".join(lines) + "\n"
-
-
-def with_what_is_recorded(every: Steps, ticks: dict[int, int], edges: list[Edge], cpus: int, part: Part) -> tuple[Steps, list[int]]:
-    """The steps of a part, those over an edge between them, and the ticks of both. What runs or idles is not shown where it is not recorded."""
-    unrecorded = {edge.cpu for edge in edges if edge.begins and edge is next(it for it in edges if it.cpu == edge.cpu)}
-    drawn = [number for number, _ in every if part.has_line(number)]
-    places, shown = dict(every), dict.fromkeys(ROWS, list[int | None]())
-    steps, times = list[tuple[int, dict[str, list[int | None]]]](), []
-    for number, tick, edge in sorted([(it, ticks[it], None) for it in places] + [(it.number, it.tick, it) for it in edges], key=lambda it: it[0]):
-        shown = places.get(number, shown)
-        if edge:
-            (unrecorded.discard if edge.begins else unrecorded.add)(edge.cpu)
-        if drawn and drawn[0] <= number <= drawn[-1]:
-            hidden = {row: [None if cpu in unrecorded else it for cpu, it in enumerate(shown[row])] for row in ("runs", "idle")}
-            steps.append((number, {**shown, **hidden, "unrecorded": [1 if cpu in unrecorded else None for cpu in range(cpus)]}))
-            times.append(tick)
-    return steps, times
-
-
-def shown_with_edges(script: str, part: Part = WHOLE) -> Counter[str]:
-    """Holds the bars of a part of a script's picture against what is recorded. Counts the bars of each row."""
-    cpus, every = steps_of(script)
-    steps, times = with_what_is_recorded(every, ticks_of(script), told_edges(script), cpus, part)
-    if not times:
-        return Counter()
-    picture = Picture(rig.ask("draw", "--time", *part.flags(), given=script).stdout)
-    # The lines that are drawn are those of commands: an edge stands between two of them.
-    axis = Axis(times, cpus)
-    drawn: Counter[Timed] = Counter(bars_told(picture, f", {TICKS}", MORE_ROWS))
-    wanted = timed_bars(steps, cpus, times, axis, MORE_ROWS)
-    are_one(drawn, Counter({it: count for it, count in wanted.items() if part.has_cpu(it[0].cpu)}))
-    return Counter(bar.row for bar, _ in drawn.elements())
-
-
-@rig.each({"whole": (15, False), "parts": (10, True)})
-def test_what_is_not_recorded_stands_by_its_ticks(least: int, parts: bool) -> None:
-    shown_often(shown_with_edges, with_edges, DRAWN, least, MORE_ROWS, parts)
-
-
-def test_by_lines_what_is_recorded_is_a_comment() -> None:
-    for place in range(20):
-        script = with_edges(place)
-        for words, comment in (([], "# at"), (["--time"], "# when")):
-            one, other = (rig.ask("draw", *words, given=text.replace("# at", comment)) for text in (script, script.replace("is recorded", "was recorded")))
-            same(outcome(other), outcome(one))
-
-
-def test_comments_that_tell_nothing_of_what_is_recorded() -> None:
-    script = f"# at 5\n{ENCLAVE}create 0 3 ready\n# at 9\ntick 0\n# at 12\ntick 0\n"
-    untold = ["".join(f"{line}\n{it}\n" for it in script.splitlines()) for line in NO_EDGES]
-    plain = timed(script)
-    for text in untold:
-        picture = timed(text)
-        same([re.sub(r"\d+", "", it) for it in picture.titles], [re.sub(r"\d+", "", it) for it in plain.titles], text)
-        same(picture.texts, plain.texts)
-
-
-def test_many_steps_of_what_is_not_recorded() -> None:
-    """Of 20,000 commands no column in which a CPU is not recorded shows who runs, or that it idles."""
-    lines = spread(many(2, 20_000), 300_000).splitlines()
-    lines[20_000:20_000] = ["# CPU 0 is recorded up to here"]
-    lines[30_000:30_000] = ["# CPU 0 is recorded from here"]
-    script = "\n".join(lines) + "\n"
-    picture, ticks = timed(script), ticks_of(script)
-    axis, [end, begin] = Axis(list(ticks.values()), 2), told_edges(script)
-    [(left, right)] = picture.edges(r"CPU 0 not recorded, .*")
-    assert abs(left - axis.x(end.tick)) <= axis.wide and abs(right - axis.x(begin.tick)) <= axis.wide, (left, right)
-    for pattern in (r".*t\d+ on CPU 0, .*", r"CPU 0 idle .*", r"CPU 0 busy .*"):
-        inside = [it for it in picture.edges(pattern) if left + axis.wide <= it[0] < right - axis.wide]
-        same(inside, [], pattern)
-
-
 def test_examples_and_loads_of_the_lab_stand_by_their_ticks() -> None:
     scripts = {file.name: file.read_text() for file in sorted((ROOT / "examples/lab/worked").glob("*.script"))}
     scripts |= {file.name: timed_script(front_of(file.read_text(), MOST_SINGLE - 100), place) for place, file in enumerate(SCRIPTS)}
     for name in ("shell-pipelines", "python-pool"):
-        scripts[name] = rig.ask("import", "--times", "--script", "-", ROOT / f"examples/recordings/{name}.txt", check=True).stdout
+        scripts[name] = rig.run(ROOT / "tools/from-perf-sched", "--times", ROOT / f"examples/recordings/{name}.txt", check=True).stdout
     assert len(scripts) > 15
     for name, script in scripts.items():
         with rig.about(name):
@@ -362,7 +274,7 @@ def runs_in(picture: Picture, axis: Axis) -> dict[tuple[int, int], str]:
     """Who ran at each CPU in each column, as the picture shows it."""
     shown: dict[tuple[int, int], str] = {}
     for text, element in picture.shapes:
-        thread, share = re.match(r"(?:.+ )?(t\d+) on CPU (\d+), ", text), re.match(r"CPU (\d+) busy about (\d+ %), ", text)
+        thread, share = re.match(r"(t\d+) on CPU (\d+), ", text), re.match(r"CPU (\d+) busy about (\d+ %), ", text)
         if thread or share:
             cpu, what = (int(thread[2]), thread[1]) if thread else (int(share[1]), share[2])
             left, right = ((int(edge) - LEFT) / axis.wide for edge in edges_of(element))

@@ -1,5 +1,5 @@
 #!/usr/bin/env python3
-"""Tests `tools/to-trace`, and the times that `pc-sim import` writes for it."""
+"""Tests `tools/to-trace`, and the times that `tools/from-perf-sched` writes for it."""
 import json
 import re
 import tomllib
@@ -39,12 +39,6 @@ def test_what_happened_stands_at_its_time():
 
 def test_without_times_a_line_is_a_microsecond():
     same(told(traced(SCRIPT.replace("# at", "# when")), "X", "ts", "dur"), [(9, 3)])
-
-
-def test_names_and_what_is_not_recorded_are_told():
-    remarks = WORKED["remarks"]
-    same([*map(list, told(traced(remarks["script"]), "X", "tid", "name", "ts", "dur"))], remarks["runs"])
-    same([*map(list, told(traced(remarks["script"].replace("# at", "# when")), "X", "tid", "name", "ts", "dur"))], remarks["untimed"])
 
 
 def test_a_steal_is_a_mark_and_who_runs_at_the_end_has_a_slice():
@@ -121,11 +115,11 @@ def test_what_is_read_is_not_written_over():
 
 
 def test_times_of_recordings():
-    """They ascend, and are all that --times adds, but for where CPUs begin and end to be recorded."""
+    """They ascend, and are all that --times adds."""
     for path in sorted((ROOT / "examples/recordings").glob("*.txt")):
-        plain, timed = (rig.ask("import", path, "--script", "-", *words, check=True).stdout.splitlines() for words in ([], ["--times"]))
+        plain, timed = (rig.run(ROOT / "tools/from-perf-sched", path, *words, check=True).stdout.splitlines() for words in ([], ["--times"]))
         times = [int(line.split()[2]) for line in timed if line.startswith("# at ")]
-        same([line for line in timed if not re.match("# at |# CPU .* is recorded", line)], plain)
+        same([line for line in timed if not line.startswith("# at ")], plain)
         same((times, times[0]), (sorted(set(times)), 0))
         rows = traced("\n".join(timed) + "\n")
         assert len(times) > 50 and Counter(row["ph"] for row in rows)["X"] > 50, path.name

@@ -43,10 +43,6 @@ FOLLOWED = {*ENVIRONMENT, "associate", "commit", "sleep", "rouse", "config", "cr
 MOST = {"cpus": (64, 64), "threads": (4_096, 65_535), "numbers": (1_000_000, 16_000_000), "room": (65_536, 65_536), "posts": (WORD32, WORD32)}
 # What tells the tick of the commands behind it: no number of more digits is one.
 TOLD_TICK = re.compile(r"# at (0|[1-9][0-9]{0,19})")
-# What names a thread: at most 64 signs of ASCII, in front of the pid.
-NAMING = re.compile(r"# t(0|[1-9][0-9]{0,9}) is ([ -~]{1,64}), (0|[1-9][0-9]{0,9})")
-# What tells that a CPU is recorded behind it alone, or in front of it alone.
-RECORDED = re.compile(r"# CPU (0|[1-9][0-9]{0,2}) is recorded (from|up to) here")
 PLACED = re.compile(r"ok t([0-9]+) [cq][0-9]+")
 REMOVED = re.compile(r"ok ([0-9]+)")
 # Answers that tell of no thread, and change nothing that the kernel has.
@@ -108,45 +104,15 @@ def is_asked(line: str) -> bool:
     return words_of(line.encode())[:1] not in ([], ["version"])
 
 
-def timed_lines(script: str) -> Iterator[tuple[int, int | None, str]]:
-    """Each line that tells no tick, by its number, with the tick that is told last above it, if one is."""
-    tick = None
-    for number, line in enumerate(script.split("\n"), 1):
-        line = line.removesuffix("\r")
-        if (told := TOLD_TICK.fullmatch(line)) and int(told[1]) <= WORD64:
-            tick = max(tick or 0, int(told[1]))
-        else:
-            yield number, tick, line
-
-
 def ticks_of(script: str) -> dict[int, int]:
     """The tick of each command, by the number of its line; none where no line tells one above a command."""
-    ticks = {number: tick for number, tick, line in timed_lines(script) if is_asked(line)}
-    return {number: tick or 0 for number, tick in ticks.items()} if any(tick is not None for tick in ticks.values()) else {}
-
-
-def names_of(script: str) -> dict[int, str]:
-    """The names of threads that comments tell: the first one of each."""
-    names: dict[int, str] = {}
-    for line in script.split("\n"):
-        if (told := NAMING.fullmatch(line.removesuffix("\r"))) and max(int(told[1]), int(told[3])) <= WORD32:
-            names.setdefault(int(told[1]), told[2])
-    return names
-
-
-class Edge(NamedTuple):
-    """Where a CPU begins, or ends, to be recorded: the number of the line, its tick, the CPU, and whether it begins there."""
-
-    number: int
-    tick: int
-    cpu: int
-    begins: bool
-
-
-def told_edges(script: str) -> list[Edge]:
-    """Where recordings of CPUs begin and end, of a script some of whose commands have ticks."""
-    told = ((number, tick or 0, RECORDED.fullmatch(line)) for number, tick, line in timed_lines(script))
-    return [Edge(number, tick, int(it[1]), it[2] == "from") for number, tick, it in told if it] if ticks_of(script) else []
+    ticks, tick, is_told, is_any = {}, 0, False, False
+    for number, line in enumerate(script.split("\n"), 1):
+        if (told := TOLD_TICK.fullmatch(line.removesuffix("\r"))) and int(told[1]) <= WORD64:
+            tick, is_told = max(tick, int(told[1])), True
+        elif is_asked(line):
+            ticks[number], is_any = tick, is_told
+    return ticks if is_any else {}
 
 
 def last_lines(output: str) -> list[str]:

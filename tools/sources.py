@@ -19,7 +19,7 @@ EXAMPLE = "pc_example"
 
 # Errors that may be want of memory.
 WANTING = re.compile(
-    r"->.*Result<.*\b(?:OutOfMemory|AllocError|(?!(?:Cpu|Mask|Level|Config|Order|Rank)Fault)\w+Fault)\b", re.S)
+    r"->.*Result<.*\b(?:OutOfMemory|AllocError|(?!(?:Mask|Level|Config|Order|Rank)Fault)\w+Fault)\b", re.S)
 # An ending of the program may be one too, where the call may allocate.
 ENDING = re.compile(r"\balloc: Global\b.*->.*\b(?:Lab)?Ending\b", re.S)
 # What want of memory leaves, clauses of these names tell.

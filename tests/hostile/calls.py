@@ -46,10 +46,7 @@ def crate_of_calls(folder):
         shutil.copy(path, source / path.name.removesuffix(".in"))
     lines = (ROOT / "crates.txt").read_text().splitlines()
     names = [re.match(r"\w+", line)[0] for line in lines if re.match(r"pc_\w+.*:", line)]
-    above = {
-        "pc_settings", "pc_recording", "pc_import", "pc_explain", "pc_pen", "pc_draw", "pc_program", "pc_sim", "pc_example", "pc_replayed",
-        "pc_tests", "pc_tests_agents", "pc_tests_program", "pc_tests_rank", "pc_tests_recordings",
-    }
+    above = {"pc_settings", "pc_explain", "pc_pen", "pc_draw", "pc_program", "pc_sim", "pc_example", "pc_replayed", "pc_tests", "pc_tests_agents", "pc_tests_program", "pc_tests_rank"}
     libraries = [name for name in names if name not in above]
     (folder / "crates.txt").write_text("\n".join([*lines, f"{NAME}: {' '.join(libraries)} thiserror", ""]))
     return folder / "crates" / NAME

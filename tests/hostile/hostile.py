@@ -17,7 +17,6 @@ from functools import partial
 sys.path.insert(0, str(pathlib.Path(__file__).resolve().parent.parent))
 
 import loads
-import recordings
 import rig  # noqa: E402
 import settings
 from calls import refuse_in_calls
@@ -39,7 +38,7 @@ class Form:
     lines: int  # of each generated script; with 0 there is none
     of_generated: int  # growths of each of these
     step: int  # of the address space
-    settings: int  # growths of each row of settings; a tenth of the drawn scripts are as many drawn settings and loads, half as many recordings
+    settings: int  # growths of each row of settings; and a tenth of the drawn scripts are as many drawn settings, and drawn loads
 
 
 SHORT = Form(growths=12, bytes_moved=12, scripts=600, lines=0, of_generated=0, step=2**19, settings=3)
@@ -71,8 +70,6 @@ def parts_of(machine, tally, options):
         "drawn settings": lambda: use("settings", settings.fault_of_drawn, range(scripts // 10)),
         "drawn loads": lambda: use("load", loads.fault_of_drawn, range(scripts // 10)),
         "worst loads": lambda: use("worst load", loads.fault_of_worst, loads.WORST),
-        "parts of a recording": lambda: use("part of a recording", recordings.fault_of_part, recordings.PARTS),
-        "drawn recordings": lambda: use("recording", recordings.fault_of_drawn, range(scripts // 2)),
         "launcher": lambda: start_launcher(tally),
     }
     left_out = set() if form.lines else {"growths of long scripts"}

@@ -7,7 +7,6 @@ import pathlib
 import subprocess
 from functools import partial
 
-import recordings
 from loads import streamed
 from machine import SECONDS, Run, Subject, ended, ending_of, told
 from settings import ROWS, written
@@ -35,7 +34,7 @@ SETTINGS = {
 
 
 def subjects(folder):
-    """Examples and settings by their names and on the standard input, scripts, loads, and recordings."""
+    """Examples and settings by their names and on the standard input, scripts, and loads."""
     for example in examples():
         yield example
         yield from (it for it in variants(example) if not it.name.startswith("explained session"))
@@ -51,7 +50,6 @@ def subjects(folder):
         yield Subject(f"{name} settings", ["run", str(file)], out=out, err=err, status=status)
         yield Subject(f"{name} settings as standard input", ["run"], file, out=out, err=err, status=status)
     yield from streamed()
-    yield from recordings.streamed(folder)
 
 
 def fault_of_same(subject, run):

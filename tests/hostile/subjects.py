@@ -5,7 +5,6 @@ import subprocess
 import sys
 
 from machine import ROOT, Subject, ending_of
-from recordings import imported
 from run_cases import Case, all_cases
 from settings import TEXTS, faulty
 from worst import write
@@ -84,7 +83,6 @@ TOLD = words_of("told")
 WORDS = words_of("words", **{"a word of 100,000 bytes": ["x" * 100_000]})
 FILES = words_of("files", **{
     "a name of 100,000 bytes": ["replay", "x" * 100_000], "settings by a name of 100,000 bytes": ["run", "x" * 100_000],
-    "a recording by a name of 100,000 bytes": ["import", "x" * 100_000],
 })
 
 
@@ -127,5 +125,4 @@ def replayed(folder):
         yield as_words(script, ["draw", "--time"], "timed drawn", out=None, whole=True)
     yield from cases(folder)
     yield from faulty(folder)
-    yield from imported(folder)
     yield from command_lines()

@@ -6,7 +6,7 @@ _pc_sim_command() {
     local word
     for word; do
         case $word in
-        replay | explain | draw | run | session | lab | import)
+        replay | explain | draw | run | session | lab)
             echo "$word"
             return
             ;;
@@ -29,8 +29,7 @@ _pc_sim() {
     run) flags="--per-cpu --draw --limit --policy --script --seed --runs -h --help" ;;
     draw) flags="--cpus --lines --time -h --help" ;;
     session) flags="--explain -h --help" ;;
-    lab) flags="--variants --per-cpu --by-group --csv --picture --script -h --help" ;;
-    import) flags="--script --load --settings --waits --times --kernel-threads --cpus --window --all --group-by --levels --limit -h --help" ;;
+    lab) flags="--variants --per-cpu --csv --picture --script -h --help" ;;
     replay | explain) flags="-h --help" ;;
     *) flags="-h --help -V --version" ;;
     esac
@@ -49,20 +48,15 @@ _pc_sim() {
         [ "$command" = lab ] || _pc_sim_files "$word" script
         return
         ;;
-    --variants | --load | --settings)
+    --variants)
         _pc_sim_files "$word" toml
-        return
-        ;;
-    --waits)
-        _pc_sim_files "$word" waits
         return
         ;;
     esac
     case $command:$word in
     *:-*) mapfile -t COMPREPLY < <(compgen -W "$flags" -- "$word") ;;
-    :*) mapfile -t COMPREPLY < <(compgen -W "replay explain draw run session lab import" -- "$word") ;;
+    :*) mapfile -t COMPREPLY < <(compgen -W "replay explain draw run session lab" -- "$word") ;;
     run:* | lab:*) _pc_sim_files "$word" toml ;;
-    import:*) _pc_sim_files "$word" txt ;;
     *) _pc_sim_files "$word" script ;;
     esac
 }

@@ -1,7 +1,7 @@
 # Completions of pc-sim for fish. Source this file, or put it where fish looks for files:
 #     cp tools/completions/pc-sim.fish ~/.config/fish/completions/
 
-set -l commands replay explain draw run session lab import
+set -l commands replay explain draw run session lab
 set -l policies levels fifo least-ran levels-then-least-ran
 
 complete -c pc-sim -f
@@ -11,7 +11,6 @@ complete -c pc-sim -n "not __fish_seen_subcommand_from $commands" -a draw -d "Dr
 complete -c pc-sim -n "not __fish_seen_subcommand_from $commands" -a run -d "Runs agents by settings"
 complete -c pc-sim -n "not __fish_seen_subcommand_from $commands" -a session -d "Answers commands as they come"
 complete -c pc-sim -n "not __fish_seen_subcommand_from $commands" -a lab -d "Compares policies on a load"
-complete -c pc-sim -n "not __fish_seen_subcommand_from $commands" -a import -d "Turns a recording of Linux into a script or a load"
 complete -c pc-sim -n "not __fish_seen_subcommand_from $commands" -s V -l version -d "Tells the version"
 complete -c pc-sim -s h -l help -d "Tells what there is"
 complete -c pc-sim -n "__fish_seen_subcommand_from run" -l per-cpu -d "Also reports a line for each CPU"
@@ -27,22 +26,8 @@ complete -c pc-sim -n "__fish_seen_subcommand_from draw" -l lines -x -d "Draws w
 complete -c pc-sim -n "__fish_seen_subcommand_from draw" -l time -d "Draws time by the script's ticks"
 complete -c pc-sim -n "__fish_seen_subcommand_from lab" -l variants -r -F -d "Tries the variants of this text"
 complete -c pc-sim -n "__fish_seen_subcommand_from lab" -l per-cpu -d "Also tells the time of each CPU"
-complete -c pc-sim -n "__fish_seen_subcommand_from lab" -l by-group -d "Also tells of each group of threads"
 complete -c pc-sim -n "__fish_seen_subcommand_from lab" -l csv -d "Writes the table for other tools"
 complete -c pc-sim -n "__fish_seen_subcommand_from lab" -l picture -d "Draws how long threads waited"
 complete -c pc-sim -n "__fish_seen_subcommand_from lab" -l script -x -d "Writes the run of this variant as a script"
-complete -c pc-sim -n "__fish_seen_subcommand_from import" -l script -r -F -d "Writes it as a script into this file"
-complete -c pc-sim -n "__fish_seen_subcommand_from import" -l load -r -F -d "Writes it as a load of the lab into this file"
-complete -c pc-sim -n "__fish_seen_subcommand_from import" -l settings -r -F -d "Writes it as settings of a run into this file"
-complete -c pc-sim -n "__fish_seen_subcommand_from import" -l waits -r -F -d "Writes how long threads waited into this file"
-complete -c pc-sim -n "__fish_seen_subcommand_from import" -l times -d "Tells in the script when it was"
-complete -c pc-sim -n "__fish_seen_subcommand_from import" -l kernel-threads -d "Tells of the kernel's own threads, too"
-complete -c pc-sim -n "__fish_seen_subcommand_from import" -l cpus -x -d "Tells of these CPUs alone"
-complete -c pc-sim -n "__fish_seen_subcommand_from import" -l window -x -d "Tells these microseconds in loads and waits"
-complete -c pc-sim -n "__fish_seen_subcommand_from import" -l all -d "Tells all time in loads and waits"
-complete -c pc-sim -n "__fish_seen_subcommand_from import" -l group-by -x -a "comm pid" -d "Groups the threads of a load"
-complete -c pc-sim -n "__fish_seen_subcommand_from import" -l levels -x -a "none" -d "Gives levels by priorities"
-complete -c pc-sim -n "__fish_seen_subcommand_from import" -l limit -x -d "Reads so many events at most"
 complete -c pc-sim -n "__fish_seen_subcommand_from replay explain draw session" -k -a "(__fish_complete_suffix .script)"
 complete -c pc-sim -n "__fish_seen_subcommand_from run lab" -k -a "(__fish_complete_suffix .toml)"
-complete -c pc-sim -n "__fish_seen_subcommand_from import" -k -a "(__fish_complete_suffix .txt)"

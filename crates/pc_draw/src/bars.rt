@@ -7,7 +7,6 @@ use crate::lanes::{Lane, MOST_LANES, Scene};
 use crate::layout::PictureLayout;
 use crate::rows::{Edge, FIFTHS, LaneRow, ROWS, RowStrip, draw_strip, height_of};
 use crate::step::{Answer, Deed, Step};
-use crate::ticks::EdgeAt;
 use pc_calls::{Event, Reply};
 use pc_messages::Cpu;
 use pc_pen::Canvas;
@@ -32,8 +31,6 @@ struct Tally {
     idle: u64,
     /// The most threads that waited anywhere meanwhile.
     elsewhere: u32,
-    /// For how many ticks it was not recorded.
-    unrecorded: u64,
     /// Whether the agent slept for some of it.
     is_asleep: bool,
     posts: u32,
@@ -51,7 +48,6 @@ const NOTHING: Tally = Tally {
     items: 0,
     idle: 0,
     elsewhere: 0,
-    unrecorded: 0,
     is_asleep: false,
     posts: 0,
     deltas: 0,
@@ -120,17 +116,10 @@ fn shown_if(is_shown: bool, most: u32) -> Shown {
     }
 }
 
-/// Whether something lasted for half of a length at least.
-fn is_half(lasted: u64, length: u64) -> bool {
-    lasted > 0 && lasted.saturating_mul(2) >= length
-}
-
 impl Tally {
-    /// Counts what goes on at the CPU, for so many steps or ticks. Who runs there is not known where it is not
-    /// recorded.
-    fn count(&mut self, lane: &Lane, is_recorded: bool, elsewhere: u32, length: u64) {
+    /// Counts what goes on at the CPU, for so many steps or ticks.
+    fn count(&mut self, lane: &Lane, elsewhere: u32, length: u64) {
         match lane.runs {
-            _ if !is_recorded => self.unrecorded = self.unrecorded.saturating_add(length),
             Some(thread) => {
                 if self.busy > 0 && self.thread != thread {
                     self.is_mixed = true;
@@ -176,12 +165,13 @@ impl Tally {
 
     /// What a row shows of a column of so many steps, or ticks.
     fn shown(&self, row: LaneRow, length: u64, is_dense: bool) -> Shown {
-        let is_unrecorded = is_half(self.unrecorded, length);
         match row {
-            LaneRow::Unrecorded => shown_if(is_unrecorded, 0),
             LaneRow::Asleep => shown_if(self.is_asleep, 0),
             LaneRow::Runs => self.runs(length),
-            LaneRow::Idle => shown_if(is_half(self.idle, length) && !is_unrecorded, self.elsewhere),
+            LaneRow::Idle => shown_if(
+                self.idle > 0 && self.idle.saturating_mul(2) >= length,
+                self.elsewhere,
+            ),
             LaneRow::Waits => counted(self.waits, is_dense),
             LaneRow::Queue => counted(self.items, is_dense),
             LaneRow::Posts => counted_if(self.posts, is_dense),
@@ -211,11 +201,6 @@ impl<'t> Bars<'t> {
     pub(crate) fn reach(&mut self, index: u32, scene: &Scene, canvas: &mut Canvas) {
         let column = self.layout.column_of(index);
         let behind = self.layout.behind(index);
-        self.reach_at(column, behind, scene, canvas);
-    }
-
-    /// Goes on to a place in a column, and draws the bars that end before it.
-    fn reach_at(&mut self, column: u32, behind: u64, scene: &Scene, canvas: &mut Canvas) {
         if self.layout.counts_ticks() {
             self.pass(column, behind, scene, canvas);
         } else if column != self.column || (self.steps > 0 && !self.layout.is_dense) {
@@ -255,32 +240,15 @@ impl<'t> Bars<'t> {
 
     /// Takes a step that is drawn, after which this goes on.
     pub(crate) fn take(&mut self, step: &Step, scene: &Scene) {
-        self.take_line(step.number, scene);
-        self.count_step(step);
-    }
-
-    /// Takes the line with this number, after which this goes on.
-    fn take_line(&mut self, number: u32, scene: &Scene) {
         if self.steps == 0 {
-            self.first = number;
+            self.first = step.number;
         }
-        self.last = number;
+        self.last = step.number;
         self.steps = self.steps.saturating_add(1);
         if !self.layout.counts_ticks() {
             self.count(scene, 1);
         }
-    }
-
-    /// Goes on to an edge, and draws the bars that end before it.
-    pub(crate) fn reach_edge(&mut self, edge: &EdgeAt, scene: &Scene, canvas: &mut Canvas) {
-        let behind = self.layout.behind_tick(edge.tick);
-        let column = self.layout.column_behind(behind);
-        self.reach_at(column, behind, scene, canvas);
-    }
-
-    /// Takes an edge, after which this goes on.
-    pub(crate) fn take_edge(&mut self, edge: &EdgeAt, scene: &Scene) {
-        self.take_line(edge.line, scene);
+        self.count_step(step);
     }
 
     /// Draws the bars that last to the end, up to which this goes on.
@@ -341,7 +309,7 @@ impl<'t> Bars<'t> {
         let mut cpu = 0usize;
         for tally in self.tallies.iter_mut() {
             if cpu < cpus {
-                tally.count(&scene.lane(cpu), scene.is_recorded(cpu), waits, length);
+                tally.count(&scene.lane(cpu), waits, length);
             }
             cpu = cpu.saturating_add(1);
         }

@@ -1,9 +1,7 @@
 //! What goes on at each CPU, as the world tells it: who runs, who waits, what the queue holds, and whether the
 //! agent sleeps.
 
-use crate::ticks::EdgeAt;
 use pc_messages::{Cpu, Tid};
-use pc_remarks::Edge;
 use pc_world::World;
 
 /// The most lanes.
@@ -64,35 +62,14 @@ pub(crate) struct Scene {
     lanes: [Lane; MOST_LANES],
     /// How many threads wait at all CPUs.
     waits: u32,
-    /// Whether the CPUs are recorded. What goes on at one that is not is not known.
-    recorded: [bool; MOST_LANES],
 }
 
 impl Scene {
-    /// Before the first step. A CPU whose recording begins before it ends is not recorded up to there.
-    pub(crate) fn before(edges: &[EdgeAt]) -> Scene {
-        let mut scene = Scene {
+    /// Before the first step.
+    pub(crate) fn new() -> Scene {
+        Scene {
             lanes: [QUIET; MOST_LANES],
             waits: 0,
-            recorded: [true; MOST_LANES],
-        };
-        for edge in edges.iter().rev() {
-            if let Some(is_recorded) = scene.recorded.get_mut(edge.cpu.index() as usize) {
-                *is_recorded = edge.edge == Edge::UpToHere;
-            }
-        }
-        scene
-    }
-
-    /// Whether a CPU is recorded.
-    pub(crate) fn is_recorded(&self, cpu: usize) -> bool {
-        self.recorded.get(cpu).copied().unwrap_or(true)
-    }
-
-    /// Goes on behind an edge.
-    pub(crate) fn cross(&mut self, edge: &EdgeAt) {
-        if let Some(is_recorded) = self.recorded.get_mut(edge.cpu.index() as usize) {
-            *is_recorded = edge.edge == Edge::FromHere;
         }
     }
 

@@ -4,13 +4,9 @@
 //! several steps. On an axis of ticks they stand in the column of their tick, and a column is of several ticks where
 //! there are more ticks than columns. CPUs have lanes, one under another.
 
-use crate::lanes::Scene;
 use crate::legend::legend_height;
 use crate::part::{DrawnPart, Interval};
-use crate::ticks::{EdgeAt, Scale};
-use crate::words::NamedThread;
-use pc_messages::Tid;
-use pc_remarks::Names;
+use crate::ticks::Scale;
 
 /// The most steps, or ticks, that have a column each.
 const MOST_SINGLE: u32 = 1_000;
@@ -42,22 +38,11 @@ pub(crate) const LANE: u32 = 64;
 /// The least width of a picture, which the legend needs.
 const LEAST_WIDTH: u32 = 720;
 
-/// What the comments of a script tell of what is drawn.
-#[derive(Clone, Copy)]
-pub(crate) struct Remarks<'t> {
-    pub(crate) scale: Scale<'t>,
-    /// Where recordings of CPUs begin or end; none on an axis of lines.
-    pub(crate) edges: &'t [EdgeAt],
-    pub(crate) names: &'t Names,
-}
-
 /// The sizes of a script's picture.
 #[derive(Clone, Copy)]
 pub(crate) struct PictureLayout<'t> {
     pub(crate) part: DrawnPart,
     pub(crate) scale: Scale<'t>,
-    pub(crate) edges: &'t [EdgeAt],
-    names: &'t Names,
     /// On an axis of ticks the first tick that is drawn, and how many ticks the last is behind it.
     pub(crate) first_tick: u64,
     pub(crate) span: u64,
@@ -83,12 +68,11 @@ impl<'t> PictureLayout<'t> {
     /// this.
     pub(crate) fn of(
         part: DrawnPart,
-        remarks: Remarks<'t>,
+        scale: Scale<'t>,
         first_step: u32,
         steps: u32,
         cpus: u32,
     ) -> PictureLayout<'t> {
-        let scale = remarks.scale;
         let first_cpu = part.cpus.map_or(0, |numbers| numbers.first);
         let lanes = lanes_of(part.cpus, cpus);
         let (first_tick, span) = ticks_drawn(scale);
@@ -103,8 +87,6 @@ impl<'t> PictureLayout<'t> {
         PictureLayout {
             part,
             scale,
-            edges: remarks.edges,
-            names: remarks.names,
             first_tick,
             span,
             cpus,
@@ -135,15 +117,11 @@ impl<'t> PictureLayout<'t> {
     pub(crate) fn behind(&self, step: u32) -> u64 {
         match self.scale {
             Scale::Ticks(ticks) => {
-                self.behind_tick(ticks.get(step as usize).copied().unwrap_or(0))
+                let tick = ticks.get(step as usize).copied().unwrap_or(0);
+                tick.saturating_sub(self.first_tick)
             }
             Scale::Lines | Scale::NoTick => 0,
         }
-    }
-
-    /// How many ticks a tick is behind the first one.
-    pub(crate) fn behind_tick(&self, tick: u64) -> u64 {
-        tick.saturating_sub(self.first_tick)
     }
 
     /// How many ticks there are from the first that is drawn to the last, with both.
@@ -257,46 +235,6 @@ impl<'t> PictureLayout<'t> {
         }
     }
 
-    /// A thread, as it is shown.
-    pub(crate) fn thread(&self, number: u32) -> NamedThread<'t> {
-        NamedThread {
-            number,
-            name: self.names.name(Tid(number)),
-        }
-    }
-
-    /// What goes on before the first step that is drawn, but for what the steps before it changed.
-    pub(crate) fn scene(&self) -> Scene {
-        let mut scene = Scene::before(self.edges);
-        let (crossed, _) = edges_up_to(self.edges, self.first_step);
-        for edge in crossed {
-            scene.cross(edge);
-        }
-        scene
-    }
-
-    /// The edges behind the first step that is drawn.
-    pub(crate) fn edges_drawn(&self) -> &'t [EdgeAt] {
-        let (_, drawn) = edges_up_to(self.edges, self.first_step);
-        drawn
-    }
-
-    /// Of these edges those in front of a step that is drawn, and the others.
-    pub(crate) fn edges_before(
-        &self,
-        edges: &'t [EdgeAt],
-        index: u32,
-    ) -> (&'t [EdgeAt], &'t [EdgeAt]) {
-        edges_up_to(edges, self.first_step.saturating_add(index))
-    }
-
-    /// Whether a CPU that has a lane is not recorded from its start to its end.
-    pub(crate) fn has_edge(&self) -> bool {
-        self.edges
-            .iter()
-            .any(|edge| self.has_lane(u32::from(edge.cpu.index())))
-    }
-
     /// Where the legend begins.
     pub(crate) fn legend(&self) -> u32 {
         self.bottom().saturating_add(24)
@@ -309,17 +247,8 @@ impl<'t> PictureLayout<'t> {
 
     /// The height of the picture.
     pub(crate) fn height(&self) -> u32 {
-        self.legend().saturating_add(legend_height(self.has_edge()))
+        self.legend().saturating_add(legend_height())
     }
-}
-
-/// Of edges those behind no more than so many steps of the script, and the others.
-fn edges_up_to(edges: &[EdgeAt], steps: u32) -> (&[EdgeAt], &[EdgeAt]) {
-    let place = edges
-        .iter()
-        .position(|edge| edge.step > steps)
-        .unwrap_or(edges.len());
-    edges.split_at(place)
 }
 
 /// How many of so many CPUs have these numbers; all where none are given.

@@ -1,7 +1,7 @@
 //! The legend of a script's picture: what each mark means.
 
 use crate::moments::POST;
-use crate::rows::{IDLE, UNRECORDED, WAITS};
+use crate::rows::{IDLE, WAITS};
 use pc_pen::{
     Canvas, SMALL, arrow, bar, bold_cross, hollow_cross, outline, stroke, thread_bar, words,
 };
@@ -26,7 +26,6 @@ enum Sample {
     Home,
     Refused,
     Crash,
-    Unrecorded,
 }
 
 /// A mark, and what it means.
@@ -38,7 +37,7 @@ struct Entry {
     meaning: &'static str,
 }
 
-/// The entries of every picture, from top to bottom.
+/// All entries, from top to bottom.
 const ENTRIES: [Entry; 11] = [
     Entry {
         sample: Sample::Thread,
@@ -99,41 +98,22 @@ const ENTRIES: [Entry; 11] = [
     },
 ];
 
-/// The entry behind them where some CPU is not recorded all the time.
-const UNRECORDED_ENTRY: Entry = Entry {
-    sample: Sample::Unrecorded,
-    height: 24,
-    meaning: "the CPU is not recorded: what it does is not known",
-};
-
-/// The height of the legend, which may tell of CPUs that are not recorded.
-pub(crate) fn legend_height(has_unrecorded: bool) -> u32 {
+/// The height of the legend.
+pub(crate) fn legend_height() -> u32 {
     let mut height = FOOT;
     for entry in &ENTRIES {
         height = height.saturating_add(entry.height);
     }
-    if has_unrecorded {
-        height = height.saturating_add(UNRECORDED_ENTRY.height);
-    }
     height
 }
 
-/// Draws an entry at this height.
-fn draw_entry(canvas: &mut Canvas, y: u32, entry: &Entry) {
-    draw_sample(canvas, y, entry.sample);
-    line(canvas, MEANING, y, entry.meaning);
-}
-
-/// Draws the legend, which begins at this height and may tell of CPUs that are not recorded.
-pub(crate) fn draw_legend(canvas: &mut Canvas, top: u32, has_unrecorded: bool) {
+/// Draws the legend, which begins at this height.
+pub(crate) fn draw_legend(canvas: &mut Canvas, top: u32) {
     let mut y = top;
     for entry in &ENTRIES {
-        draw_entry(canvas, y, entry);
+        draw_sample(canvas, y, entry.sample);
+        line(canvas, MEANING, y, entry.meaning);
         y = y.saturating_add(entry.height);
-    }
-    if has_unrecorded {
-        draw_entry(canvas, y, &UNRECORDED_ENTRY);
-        y = y.saturating_add(UNRECORDED_ENTRY.height);
     }
     line(
         canvas,
@@ -187,7 +167,6 @@ fn draw_sample(canvas: &mut Canvas, y: u32, sample: Sample) {
             bold_cross(canvas, 30, y.saturating_add(6));
             canvas.done();
         }
-        Sample::Unrecorded => sample_bar(canvas, y, 14, UNRECORDED),
     }
 }
 

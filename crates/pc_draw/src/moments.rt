@@ -387,10 +387,9 @@ impl<'t> Moments<'t> {
         );
         let home = home.index();
         let queue = queue.index();
-        let thread = self.layout.thread(thread);
         let _ = write!(
             canvas,
-            "{thread} {verb} from queue {home} to queue {queue}, "
+            "t{thread} {verb} from queue {home} to queue {queue}, "
         );
         say_line(canvas, line);
     }

@@ -6,35 +6,15 @@ ghost use Rattle.pc_pen.specs.Drawn.{Marks, Pictures};
 use crate::bars::Bars;
 use crate::ground::draw_ground;
 use crate::lanes::Scene;
-use crate::layout::{PictureLayout, Remarks};
+use crate::layout::PictureLayout;
 use crate::legend::draw_legend;
 use crate::moments::Moments;
 use crate::part::{DrawnPart, Interval};
 use crate::step::{Answer, Deed, Step, Story, Traces};
-use crate::ticks::EdgeAt;
+use crate::ticks::Scale;
 use pc_pen::{Canvas, write_end, write_opening_bytes};
 use pc_script::{Line, lines_of};
 use std::io::{self, Write};
-
-/// Writes the bars that end where recordings of CPUs begin or end.
-fn write_edges<W: Write>(
-    bars: &mut Bars<'_>,
-    scene: &mut Scene,
-    edges: &[EdgeAt],
-    canvas: &mut Canvas,
-    writer: &mut W,
-) -> io::Result<()>
-    ensures { OnOk result (Marks (W.contents writer.old) (W.contents writer.new)) }
-{
-    for edge in edges {
-        canvas.clear();
-        bars.reach_edge(edge, scene, canvas);
-        scene.cross(edge);
-        bars.take_edge(edge, scene);
-        canvas.write_to(writer)?;
-    }
-    Ok(())
-}
 
 /// Writes the bars of the steps that are drawn.
 fn write_bars<W: Write>(
@@ -47,15 +27,11 @@ fn write_bars<W: Write>(
     ensures { OnOk result (Marks (W.contents writer.old) (W.contents writer.new)) }
 {
     let mut bars = Bars::new(*layout);
-    let mut scene = layout.scene();
-    let mut edges = layout.edges_drawn();
+    let mut scene = Scene::new();
     let mut index = 0u32;
     // The first step takes all changes before it along.
     let mut changed = 0usize;
     for step in steps {
-        let (crossed, others) = layout.edges_before(edges, index);
-        edges = others;
-        write_edges(&mut bars, &mut scene, crossed, canvas, writer)?;
         canvas.clear();
         bars.reach(index, &scene, canvas);
         if let Some(changes) = traces.changes.as_slice().get(changed..step.changed) {
@@ -109,7 +85,7 @@ fn write_moments<W: Write>(
     write_crashes(&mut moments, steps, canvas, writer)?;
     canvas.clear();
     moments.end(canvas);
-    draw_legend(canvas, layout.legend(), layout.has_edge());
+    draw_legend(canvas, layout.legend());
     canvas.write_to(writer)
 }
 
@@ -199,7 +175,7 @@ pub(crate) fn write_picture<W: Write>(
     story: &Story,
     traces: &Traces,
     part: DrawnPart,
-    remarks: Remarks<'_>,
+    scale: Scale<'_>,
     writer: &mut W,
 ) -> io::Result<()>
     ensures { OnOk result (Pictures title.now (W.contents writer.old) (W.contents writer.new)) }
@@ -207,12 +183,10 @@ pub(crate) fn write_picture<W: Write>(
     let all = story.steps.as_slice();
     let (first, end) = places_in(all, part.lines);
     let steps = all.get(first..end).unwrap_or(&[]);
+    let scale = scale.of_steps(first, end);
     let layout = PictureLayout::of(
         part,
-        Remarks {
-            scale: remarks.scale.of_steps(first, end),
-            ..remarks
-        },
+        scale,
         narrow(first),
         narrow(steps.len()),
         cpus_of(all),

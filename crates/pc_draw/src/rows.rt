@@ -2,16 +2,13 @@
 
 use crate::layout::PictureLayout;
 use crate::ticks::Scale;
-use crate::words::{Extent, NamedThread, Stretch, Waiting};
+use crate::words::{Extent, Stretch, Waiting};
 use pc_pen::{Canvas, Count, bar, stroke, thread_bar, words};
 use std::fmt::{Display, Write};
 
-/// The rows of a lane, from top to bottom but for [`LaneRow::Unrecorded`] and [`LaneRow::Idle`], which lie where who
-/// runs would.
+/// The rows of a lane, from top to bottom but for [`LaneRow::Idle`], which lies where who runs would.
 #[derive(Clone, Copy)]
 pub(crate) enum LaneRow {
-    /// Whether the CPU is not recorded.
-    Unrecorded,
     /// Whether the agent sleeps.
     Asleep,
     /// Who runs.
@@ -43,8 +40,7 @@ impl LaneRow {
 }
 
 /// All rows.
-pub(crate) const ROWS: [LaneRow; 10] = [
-    LaneRow::Unrecorded,
+pub(crate) const ROWS: [LaneRow; 9] = [
     LaneRow::Asleep,
     LaneRow::Runs,
     LaneRow::Idle,
@@ -59,10 +55,6 @@ pub(crate) const ROWS: [LaneRow; 10] = [
 /// The values of [`LaneRow::Runs`] up to this one are the busy fifths of columns; those above are threads, from `t0`
 /// up.
 pub(crate) const FIFTHS: u32 = 5;
-
-/// The style of [`LaneRow::Unrecorded`]. One sees through it, since a column may be of several steps.
-pub(crate) const UNRECORDED: &str =
-    "fill=\"#000\" fill-opacity=\".06\" stroke=\"#888\" stroke-dasharray=\"1 3\"";
 
 /// The style of [`LaneRow::Idle`].
 pub(crate) const IDLE: &str = "stroke=\"#8B2A1A\" stroke-width=\"3\" stroke-dasharray=\"3 2\"";
@@ -215,9 +207,8 @@ pub(crate) fn draw_strip(
         extent: extent_of(layout, &since, end),
     };
     match row {
-        LaneRow::Unrecorded => draw_unrecorded(canvas, &span),
         LaneRow::Asleep => draw_asleep(canvas, &span),
-        LaneRow::Runs => draw_runs(canvas, layout, &span, strip),
+        LaneRow::Runs => draw_runs(canvas, &span, strip),
         LaneRow::Idle => draw_idle(canvas, &span, strip),
         LaneRow::Waits => draw_waits(canvas, &span, strip),
         LaneRow::Queue => draw_queue(canvas, &span, strip),
@@ -235,15 +226,6 @@ fn count_bar(canvas: &mut Canvas, span: &Span, bottom: u32, count: u32, style: &
     bar(canvas, span.x, y, span.width, height, style);
 }
 
-fn draw_unrecorded(canvas: &mut Canvas, span: &Span) {
-    let y = span.y.saturating_add(8);
-    bar(canvas, span.x, y, span.width, 18, UNRECORDED);
-    let cpu = span.cpu;
-    let extent = span.extent;
-    let _ = write!(canvas, "CPU {cpu} not recorded, {extent}");
-    canvas.done();
-}
-
 fn draw_asleep(canvas: &mut Canvas, span: &Span) {
     let y = span.y.saturating_add(1);
     bar(canvas, span.x, y, span.width, 3, "fill=\"#222\"");
@@ -253,34 +235,44 @@ fn draw_asleep(canvas: &mut Canvas, span: &Span) {
     canvas.done();
 }
 
-fn draw_runs(canvas: &mut Canvas, layout: &PictureLayout<'_>, span: &Span, strip: &RowStrip) {
+fn draw_runs(canvas: &mut Canvas, span: &Span, strip: &RowStrip) {
     match strip.value.checked_sub(FIFTHS + 1) {
-        Some(thread) => draw_thread(canvas, span, &layout.thread(thread)),
+        Some(thread) => draw_thread(canvas, span, thread),
         None => draw_share(canvas, span, strip.value),
     }
 }
 
-/// A thread that runs. Where its bar has no room for its name, its number stands there alone, or nothing.
-fn draw_thread(canvas: &mut Canvas, span: &Span, thread: &NamedThread<'_>) {
+/// A thread that runs.
+fn draw_thread(canvas: &mut Canvas, span: &Span, thread: u32) {
     let x = span.x;
     let y = span.y.saturating_add(8);
     let width = span.width;
     let cpu = span.cpu;
     let extent = span.extent;
-    thread_bar(canvas, x, y, width, 18, thread.number);
-    let _ = write!(canvas, "{thread} on CPU {cpu}, {extent}");
+    thread_bar(canvas, x, y, width, 18, thread);
+    let _ = write!(canvas, "t{thread} on CPU {cpu}, {extent}");
     canvas.done();
-    let Some(label) = thread.within(width) else {
-        return;
-    };
-    words(
-        canvas,
-        x.saturating_add(3),
-        span.y.saturating_add(21),
-        "font-size=\"11\" fill=\"#000\" stroke=\"#fff\" stroke-width=\"3\" paint-order=\"stroke\"",
-    );
-    let _ = write!(canvas, "{label}");
-    canvas.done();
+    if width >= room_of(thread) {
+        words(
+            canvas,
+            x.saturating_add(3),
+            span.y.saturating_add(21),
+            "font-size=\"11\" fill=\"#000\" stroke=\"#fff\" stroke-width=\"3\" paint-order=\"stroke\"",
+        );
+        let _ = write!(canvas, "t{thread}");
+        canvas.done();
+    }
+}
+
+/// The width that a thread's name needs.
+fn room_of(thread: u32) -> u32 {
+    match thread {
+        0..=9 => 19,
+        10..=99 => 26,
+        100..=999 => 33,
+        1_000..=9_999 => 40,
+        _ => 47,
+    }
 }
 
 /// Columns in which several threads ran, or one did for a part.

@@ -9,13 +9,11 @@ ghost use Rattle.pc_pen.specs.Drawn.{Pictures};
 ghost use Rattle.pc_script.specs.declared.input.TheConstants.{MOST_BYTES};
 ghost use Rattle.pc_script.specs.declared.outcome.ScriptFault.{ScriptFault};
 
-use crate::layout::Remarks;
 use crate::part::{DrawnPart, Missing};
 use crate::picture::{cpus_of, write_picture};
 use crate::record::Recorder;
-use crate::ticks::{Axis, Scale, Timeline};
+use crate::ticks::{Axis, Scale, ticks_along};
 use crate::words::Title;
-use pc_remarks::Names;
 use pc_script::{Outcome, ScriptFault, read_text, walk};
 use pc_session::Session;
 use std::alloc::Global;
@@ -35,8 +33,7 @@ pub enum Drawn {
 ///
 /// The whole script is answered whatever the part, and told by the title. At the first line of a part it is drawn how
 /// things stand there. On an axis of ticks a step's tick is that of the last line `# at TICK` above it, and 0 before
-/// any; one that is below the one before is passed over. Only then ticks are kept, one for each step, and where CPUs
-/// are recorded. On each axis a thread that a comment names is shown by its name, too.
+/// any; one that is below the one before is passed over. Only then ticks are kept, one for each step.
 ///
 /// Where the part asks for lines, or else for CPUs, none of which the script has, nothing is written. Of CPUs it has as
 /// many as the `enclave` that is accepted says. No clause says so.
@@ -100,20 +97,14 @@ fn draw_recorded<W: Write>(
     ensures err { (fault : ScriptFault) → result ≡ Err fault
         → (fault ≡ ScriptFault.OutOfMemory) ⊎ (fault ≡ ScriptFault.Write) }
 {
-    let Ok(timeline) = Timeline::along(alloc, axis, text, &recorder.story.steps) else {
-        return Err(ScriptFault::OutOfMemory);
-    };
-    let Ok(names) = Names::in_text(alloc, text) else {
-        return Err(ScriptFault::OutOfMemory);
+    let ticks = match ticks_along(alloc, axis, text, &recorder.story.steps) {
+        Ok(ticks) => ticks,
+        Err(_) => return Err(ScriptFault::OutOfMemory),
     };
     let Ok(title) = Title::of(alloc, &recorder.story.summary()) else {
         return Err(ScriptFault::OutOfMemory);
     };
-    let remarks = Remarks {
-        scale: Scale::of(axis, timeline.ticks.as_slice()),
-        edges: timeline.edges.as_slice(),
-        names: &names,
-    };
+    let scale = Scale::of(axis, ticks.as_slice());
     match write_picture(
         title.title(),
         title.words(),
@@ -121,7 +112,7 @@ fn draw_recorded<W: Write>(
         &recorder.story,
         &recorder.traces,
         part,
-        remarks,
+        scale,
         writer,
     ) {
         Ok(()) => Ok(()),

@@ -1,12 +1,10 @@
 //! The axis of a script's picture: by what its steps stand from left to right.
 //!
-//! A comment `# at TICK` in front of a command tells when it happens. The ticks of steps, and from when on or up to
-//! when a CPU is recorded, are kept where they are asked for alone.
+//! A comment `# at TICK` in front of a command tells when it happens. The ticks of steps are kept where they are asked
+//! for alone.
 
 use crate::step::Step;
-use pc_messages::Cpu;
-use pc_remarks::{Edge, edge_in, tick_in};
-use pc_script::lines_of;
+use pc_script::{lines_of, number};
 use std::alloc::{AllocError, Global};
 
 /// By what the steps of a picture stand from left to right.
@@ -53,88 +51,49 @@ impl<'t> Scale<'t> {
     }
 }
 
-/// Where the recording of a CPU begins or ends.
-#[derive(Clone, Copy)]
-pub(crate) struct EdgeAt {
-    pub(crate) cpu: Cpu,
-    pub(crate) edge: Edge,
-    /// The number of its line, counted from 1.
-    pub(crate) line: u32,
-    pub(crate) tick: u64,
-    /// How many steps stand in front of it.
-    pub(crate) step: u32,
+/// The tick that a line tells: `# at `, a number as commands have it, and nothing else.
+fn told_tick(line: &[u8]) -> Option<u64> {
+    match line {
+        [b'#', b' ', b'a', b't', b' ', word @ ..] => number(word),
+        _ => None,
+    }
 }
 
-/// What the comments of a text tell of time. It is empty where no line above a step tells a tick, or where the axis is
-/// of lines.
-#[derive(Drop)]
-pub(crate) struct Timeline {
-    /// Of each step the tick of the last line above it that tells one; one that is below the one before is passed over.
-    pub(crate) ticks: Vec<u64>,
-    /// Where recordings of CPUs begin or end, in order, up to the last step.
-    pub(crate) edges: Vec<EdgeAt>,
+/// The ticks of the steps of a text, of each that of the last line above it that tells one; one that is below the one
+/// before is passed over. No ticks where no such line is above a step, or where the axis is of lines.
+pub(crate) fn ticks_along(
+    alloc: Global,
+    axis: Axis,
+    text: &[u8],
+    steps: &[Step],
+) -> Result<Vec<u64>, AllocError> {
+    match axis {
+        Axis::Lines => Ok(Vec::new(alloc)),
+        Axis::Ticks => ticks_of(alloc, text, steps),
+    }
 }
 
-impl Timeline {
-    /// Of no ticks.
-    fn empty(alloc: Global) -> Timeline {
-        Timeline {
-            ticks: Vec::new(alloc),
-            edges: Vec::new(alloc),
+/// The ticks of the steps of a text.
+fn ticks_of(alloc: Global, text: &[u8], steps: &[Step]) -> Result<Vec<u64>, AllocError> {
+    let mut ticks = Vec::new(alloc);
+    let mut tick = 0u64;
+    let mut is_told = false;
+    let mut place = 0u32;
+    for line in lines_of(Some(text)) {
+        let Some(step) = steps.get(ticks.len()) else {
+            break;
+        };
+        place = place.saturating_add(1);
+        if step.number == place {
+            ticks.push(tick)?;
+        } else if let Some(told) = told_tick(line) {
+            tick = tick.max(told);
+            is_told = true;
         }
     }
-
-    /// What a text of these steps tells along an axis.
-    pub(crate) fn along(
-        alloc: Global,
-        axis: Axis,
-        text: &[u8],
-        steps: &[Step],
-    ) -> Result<Timeline, AllocError> {
-        match axis {
-            Axis::Lines => Ok(Timeline::empty(alloc)),
-            Axis::Ticks => Timeline::of(alloc, text, steps),
-        }
-    }
-
-    /// What a text of these steps tells.
-    fn of(alloc: Global, text: &[u8], steps: &[Step]) -> Result<Timeline, AllocError> {
-        let mut timeline = Timeline::empty(alloc);
-        let mut tick = 0u64;
-        let mut is_told = false;
-        let mut line = 0u32;
-        for text in lines_of(Some(text)) {
-            let Some(step) = steps.get(timeline.ticks.len()) else {
-                break;
-            };
-            line = line.saturating_add(1);
-            if step.number == line {
-                timeline.ticks.push(tick)?;
-            } else if let Some(told) = tick_in(text) {
-                tick = tick.max(told);
-                is_told = true;
-            } else {
-                timeline.note_edge(text, line, tick)?;
-            }
-        }
-        if is_told {
-            Ok(timeline)
-        } else {
-            Ok(Timeline::empty(alloc))
-        }
-    }
-
-    /// Keeps the edge that a line tells behind the steps so far, if it tells one.
-    fn note_edge(&mut self, text: &[u8], line: u32, tick: u64) -> Result<(), AllocError> {
-        if let Some(told) = edge_in(text) {
-            self.edges.push(EdgeAt {
-                cpu: told.cpu,
-                edge: told.edge,
-                line,
-                tick,
-                step: u32::try_from(self.ticks.len()).unwrap_or(u32::MAX),
-            })?;
-        }
-        Ok(())
+    if is_told {
+        Ok(ticks)
+    } else {
+        Ok(Vec::new(alloc))
     }
 }

@@ -128,7 +128,7 @@ impl Title {
     }
 }
 
-/// Words of a mark: in the place of what would be markup stands what looks or reads like it.
+/// Words of a mark: in the place of what would be markup stands what looks like it.
 #[derive(Clone, Copy)]
 pub(crate) struct Unmarked<'a>(pub(crate) &'a [u8]);
 
@@ -138,67 +138,10 @@ impl fmt::Display for Unmarked<'_> {
             match *byte {
                 b'<' => f.write_str("\u{2039}")?,
                 b'>' => f.write_str("\u{203a}")?,
-                b'&' => f.write_str("+")?,
                 other => f.write_char(char::from(other))?,
             }
         }
         Ok(())
-    }
-}
-
-/// A thread, by its name and its number: `bash t0`; one without a name by its number alone.
-#[derive(Clone, Copy)]
-pub(crate) struct NamedThread<'t> {
-    pub(crate) number: u32,
-    pub(crate) name: Option<&'t [u8]>,
-}
-
-impl<'t> NamedThread<'t> {
-    /// What has room in a bar of this width, in pixels: all of it, its number alone, or nothing.
-    pub(crate) fn within(&self, width: u32) -> Option<NamedThread<'t>> {
-        let number = room_of(self.number);
-        if width < number {
-            return None;
-        }
-        let room = match self.name {
-            Some(name) => {
-                let letters = u32::try_from(name.len()).unwrap_or(u32::MAX);
-                letters
-                    .saturating_add(1)
-                    .saturating_mul(LETTER)
-                    .saturating_add(number)
-            }
-            None => number,
-        };
-        let name = if width < room { None } else { self.name };
-        Some(NamedThread { name, ..*self })
-    }
-}
-
-/// The width that a letter of a name needs, in pixels.
-const LETTER: u32 = 7;
-
-/// The width that a thread's number needs, in pixels.
-fn room_of(thread: u32) -> u32 {
-    match thread {
-        0..=9 => 19,
-        10..=99 => 26,
-        100..=999 => 33,
-        1_000..=9_999 => 40,
-        _ => 47,
-    }
-}
-
-impl fmt::Display for NamedThread<'_> {
-    fn fmt<W: fmt::Write>(&self, f: &mut fmt::Formatter<W>) -> fmt::Result {
-        let number = self.number;
-        match self.name {
-            Some(name) => {
-                let name = Unmarked(name);
-                write!(f, "{name} t{number}")
-            }
-            None => write!(f, "t{number}"),
-        }
     }
 }
 

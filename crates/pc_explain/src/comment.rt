@@ -64,7 +64,7 @@ fn write_sentence<W: Write>(sentence: &[u8], writer: &mut W) -> Result<(), Scrip
 
 /// Writes each sentence as a comment.
 pub(crate) fn write_sentences<W: Write>(
-    sentences: &Sentences<'_>,
+    sentences: &Sentences,
     writer: &mut W,
 ) -> Result<(), ScriptFault>
     ensures ok { OnOk result (Annotates [] (W.contents writer.old) (W.contents writer.new)) }

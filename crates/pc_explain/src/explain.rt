@@ -20,9 +20,7 @@ use crate::faults::{Settled, tell_fault};
 use crate::openings::{on_long_line, on_version};
 use crate::sentences::Sentences;
 use crate::telling::{CommandContext, tell};
-use crate::words::ThreadNames;
 use pc_policy::PolicyName;
-use pc_remarks::Names;
 use pc_script::{
     Command, Conversed, Helper, Line, Observer, Outcome, Response, ScriptFault, Version, converse,
     read_text, walk,
@@ -33,9 +31,7 @@ use std::io::{BufWriter, Read, Write};
 
 /// Writes, for each line that has a reply, the line, the reply, and sentences on it.
 #[derive(Drop)]
-struct Comments<'n> {
-    /// The names of threads.
-    names: ThreadNames<'n>,
+struct Comments {
     /// What the sentences on the command that is under way need of the world before it.
     before: Before,
     /// The version of the script, which its first line that is not silent settles.
@@ -44,11 +40,10 @@ struct Comments<'n> {
     policy: PolicyName,
 }
 
-impl<'n> Comments<'n> {
+impl Comments {
     /// Before the first line.
-    fn new(names: ThreadNames<'n>) -> Comments<'n> {
+    fn new() -> Comments {
         Comments {
-            names,
             before: Before::Nothing,
             settled: None,
             policy: PolicyName::USUAL,
@@ -57,8 +52,8 @@ impl<'n> Comments<'n> {
 }
 
 /// The sentences on a line that is a fault.
-fn on_fault(settled: Settled, line: Line<'_>) -> Sentences<'static> {
-    let mut sentences = Sentences::new(ThreadNames(None));
+fn on_fault(settled: Settled, line: Line<'_>) -> Sentences {
+    let mut sentences = Sentences::new();
     tell_fault(&mut sentences, settled, line);
     sentences
 }
@@ -74,17 +69,18 @@ fn remembered(session: &Session, command: &Command) -> Before {
 }
 
 /// The sentences on a command that was answered.
-fn on_command<'n>(
+fn on_command(
     session: &Session,
     command: &Command,
     response: &Response,
-    comments: &Comments<'n>,
-) -> Sentences<'n> {
-    let mut sentences = Sentences::new(comments.names);
+    before: &Before,
+    policy: &PolicyName,
+) -> Sentences {
+    let mut sentences = Sentences::new();
     let scene = CommandContext {
         world: session.world(),
-        before: &comments.before,
-        policy: &comments.policy,
+        before,
+        policy,
     };
     tell(&mut sentences, command, response, &scene);
     sentences
@@ -101,7 +97,7 @@ fn note_policy(policy: &mut PolicyName, response: &Response) {
 fn write_told<W: Write>(
     line: Line<'_>,
     response: &Response,
-    sentences: &Sentences<'_>,
+    sentences: &Sentences,
     writer: &mut W,
 ) -> Result<(), ScriptFault>
     ensures ok { OnOk result
@@ -128,7 +124,7 @@ fn write_fault_line<W: Write>(number: u64, writer: &mut W) -> Result<(), ScriptF
 /// Writes a line that is a fault, that it is one, and why.
 fn write_fault<W: Write>(
     line: Line<'_>,
-    sentences: &Sentences<'_>,
+    sentences: &Sentences,
     writer: &mut W,
 ) -> Result<(), ScriptFault>
     ensures ok { OnOk result
@@ -151,7 +147,7 @@ fn write_passed_over<W: Write>(number: u64, writer: &mut W) -> Result<(), Script
     write_sentences(&on_long_line(), writer)
 }
 
-impl<W: Write> Observer<Session, W> for Comments<'_> {
+impl<W: Write> Observer<Session, W> for Comments {
     ghost Tells = { λ old before notices new after. Annotates (notices_text notices) before after };
 
     ghost MayFail = { λ fault. fault ≡ ScriptFault.Write };
@@ -183,7 +179,7 @@ impl<W: Write> Observer<Session, W> for Comments<'_> {
     ) -> Result<(), ScriptFault> {
         self.settled = settled_by(self.settled);
         note_policy(&mut self.policy, response);
-        let sentences = on_command(machine, command, response, self);
+        let sentences = on_command(machine, command, response, &self.before, &self.policy);
         let told = write_told(line, response, &sentences, writer);
         let_view_go(response);
         told
@@ -215,8 +211,8 @@ impl<W: Write> Observer<Session, W> for Comments<'_> {
 /// comments between.
 ///
 /// What is written is, without its comments, what [`pc_script::run_script`] writes. Reading and the faults are as
-/// there. Comments are printed ASCII, whatever bytes the script has, and take no memory but for the names of threads,
-/// by which they tell these. They are written line by line, so a writer without a buffer is slow; nothing is flushed.
+/// there. Comments are printed ASCII, whatever bytes the script has, and take no memory. They are written line by line,
+/// so a writer without a buffer is slow; nothing is flushed.
 pub fn explain_script<R: Read, W: Write>(
     alloc: Global,
     reader: &mut R,
@@ -239,18 +235,15 @@ pub fn explain_script<R: Read, W: Write>(
         × Consumes (R.remaining reader.old) (R.remaining reader.new) bytes }
 {
     let text = read_text(alloc, reader)?;
-    let Ok(names) = Names::in_text(alloc, text.as_slice()) else {
-        return Err(ScriptFault::OutOfMemory);
-    };
-    let mut comments = Comments::new(ThreadNames(Some(&names)));
-    walk::<Session, Comments<'_>, W>(alloc, text.as_slice(), &mut comments, writer)
+    let mut comments = Comments::new();
+    walk::<Session, Comments, W>(alloc, text.as_slice(), &mut comments, writer)
 }
 
 /// Answers the lines of a text one after another, as [`pc_script::run_session`] does in a session of its own, and
 /// writes the responses with comments between.
 ///
 /// What is written is, without its comments, what is written there, and its comments are printed ASCII. A line that was
-/// passed over is told by its number alone, and so is each thread.
+/// passed over is told by its number alone.
 pub fn explain_session<R: Read, W: Write + Drop, H: Helper>(
     alloc: Global,
     reader: &mut R,
@@ -274,6 +267,6 @@ pub fn explain_session<R: Read, W: Write + Drop, H: Helper>(
     ensures err { (fault : ScriptFault) → result ≡ Err fault → (fault ≡ ScriptFault.OutOfMemory)
         ⊎ (fault ≡ ScriptFault.Write) ⊎ (fault ≡ ScriptFault.TooLong) }
 {
-    let mut comments = Comments::new(ThreadNames(None));
-    converse::<Session, Comments<'_>, R, W, H>(alloc, reader, &mut comments, helper, writer)
+    let mut comments = Comments::new();
+    converse::<Session, Comments, R, W, H>(alloc, reader, &mut comments, helper, writer)
 }

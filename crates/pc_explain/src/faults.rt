@@ -14,7 +14,7 @@ const ENDS: [&str; 4] = ["bye", "exit", "q", "quit"];
 pub(crate) type Settled = Option<Version>;
 
 /// Tells why a line of a script, of which the version is settled so far, is no command.
-pub(crate) fn tell_fault(text: &mut Sentences<'_>, settled: Settled, line: Line<'_>) {
+pub(crate) fn tell_fault(text: &mut Sentences, settled: Settled, line: Line<'_>) {
     // Sentences take any text: what goes past their room is left out.
     let _ = fault(text, settled, line.text);
     let _ = encoding(text, line);
@@ -22,7 +22,7 @@ pub(crate) fn tell_fault(text: &mut Sentences<'_>, settled: Settled, line: Line<
 }
 
 /// Tells of a text whose first bytes tell how it is encoded.
-fn encoding(text: &mut Sentences<'_>, line: Line<'_>) -> fmt::Result {
+fn encoding(text: &mut Sentences, line: Line<'_>) -> fmt::Result {
     if line.number != 1 {
         return Ok(());
     }
@@ -35,7 +35,7 @@ fn encoding(text: &mut Sentences<'_>, line: Line<'_>) -> fmt::Result {
 }
 
 /// Tells of a text that begins with the mark of an encoding.
-fn marked(text: &mut Sentences<'_>, mark: &[u8], encoding: &str) -> fmt::Result {
+fn marked(text: &mut Sentences, mark: &[u8], encoding: &str) -> fmt::Result {
     let quoted = QuotedWord(mark);
     write!(text, "The text begins with `{quoted}`, ")?;
     write!(text, "the byte order mark of {encoding}: ")?;
@@ -43,7 +43,7 @@ fn marked(text: &mut Sentences<'_>, mark: &[u8], encoding: &str) -> fmt::Result 
 }
 
 /// Tells of a `#` or a tab that is taken for a part of a word.
-fn spaces(text: &mut Sentences<'_>, line: &[u8]) -> fmt::Result {
+fn spaces(text: &mut Sentences, line: &[u8]) -> fmt::Result {
     if line
         .split(|byte| *byte == b' ')
         .any(|word| word.starts_with(b"#"))
@@ -56,7 +56,7 @@ fn spaces(text: &mut Sentences<'_>, line: &[u8]) -> fmt::Result {
     Ok(())
 }
 
-fn fault(text: &mut Sentences<'_>, settled: Settled, line: &[u8]) -> fmt::Result {
+fn fault(text: &mut Sentences, settled: Settled, line: &[u8]) -> fmt::Result {
     match trouble_in(settled.unwrap_or(Version::One), line) {
         Some(Trouble::NoCommand { word }) => no_command(text, settled, word, line),
         Some(
@@ -98,7 +98,7 @@ fn fault(text: &mut Sentences<'_>, settled: Settled, line: &[u8]) -> fmt::Result
 }
 
 /// The first word of a line is no command's in a script of the version.
-fn no_command(text: &mut Sentences<'_>, settled: Settled, word: &[u8], line: &[u8]) -> fmt::Result {
+fn no_command(text: &mut Sentences, settled: Settled, word: &[u8], line: &[u8]) -> fmt::Result {
     if word == b"version".as_slice() {
         return unnamed(text, settled.is_none(), line);
     }
@@ -123,7 +123,7 @@ fn no_command(text: &mut Sentences<'_>, settled: Settled, word: &[u8], line: &[u
 }
 
 /// Tells of a number that has zeros in front.
-fn zeros(text: &mut Sentences<'_>, word: &[u8]) -> fmt::Result {
+fn zeros(text: &mut Sentences, word: &[u8]) -> fmt::Result {
     let digits = word.strip_prefix(b"t".as_slice()).unwrap_or(word);
     match digits {
         [b'0', _, ..] if digits.iter().all(|byte| byte.is_ascii_digit()) => {
@@ -134,7 +134,7 @@ fn zeros(text: &mut Sentences<'_>, word: &[u8]) -> fmt::Result {
 }
 
 /// How a command is written.
-fn form(text: &mut Sentences<'_>, verb: Verb) -> fmt::Result {
+fn form(text: &mut Sentences, verb: Verb) -> fmt::Result {
     let form = CommandInWords(verb);
     writeln!(text, "It is written: {form}.")
 }

@@ -1,7 +1,6 @@
 //! The table of commands, written.
 
 use crate::sentences::Sentences;
-use crate::words::ThreadNames;
 use pc_script::CommandTable;
 use std::fmt::Write as _;
 use std::io::{self, Write};
@@ -12,7 +11,7 @@ use std::io::{self, Write};
 /// # Errors
 /// Those of the writer: then a part of it may be written.
 pub fn write_command_table<W: Write>(writer: &mut W) -> io::Result<()> {
-    let mut table = Sentences::new(ThreadNames(None));
+    let mut table = Sentences::new();
     let rows = CommandTable;
     // The table has room.
     let _ = write!(table, "{rows}");

@@ -2,10 +2,9 @@
 
 ghost use Rattle.std.specs.Prelude.{◌≤◌};
 
-use crate::words::{Count, ThreadNames};
+use crate::words::Count;
 use pc_delta::{Delta, Part};
 use pc_messages::Tid;
-use pc_remarks::NamedThread;
 use pc_view::View;
 use std::fmt;
 
@@ -90,11 +89,6 @@ impl News {
         }
     }
 
-    /// The messages, in words that have these names.
-    pub(crate) fn in_words<'n>(&'n self, names: ThreadNames<'n>) -> NewsInWords<'n> {
-        NewsInWords { news: self, names }
-    }
-
     /// Whether there are no messages.
     pub(crate) fn is_empty(&self) -> bool {
         self.told == 0
@@ -126,48 +120,28 @@ impl News {
     }
 }
 
-/// A range, in words.
-#[derive(Clone, Copy)]
-struct RangeInWords<'n> {
-    thread: NamedThread<'n>,
-    from: u32,
-    to: u32,
-}
-
-impl fmt::Display for RangeInWords<'_> {
+impl fmt::Display for Range {
     fn fmt<W: fmt::Write>(&self, f: &mut fmt::Formatter<W>) -> fmt::Result {
-        let thread = &self.thread;
+        let thread = self.thread.index();
         let from = self.from;
         let to = self.to;
         if from == to {
-            write!(f, "{thread} {from}")
+            write!(f, "t{thread} {from}")
         } else {
-            write!(f, "{thread} {from} to {to}")
+            write!(f, "t{thread} {from} to {to}")
         }
     }
 }
 
-/// Messages, and the names of their threads.
-#[derive(Clone, Copy)]
-pub(crate) struct NewsInWords<'n> {
-    news: &'n News,
-    names: ThreadNames<'n>,
-}
-
-impl fmt::Display for NewsInWords<'_> {
+impl fmt::Display for News {
     fn fmt<W: fmt::Write>(&self, f: &mut fmt::Formatter<W>) -> fmt::Result {
         let mut before = "";
-        for range in &self.news.ranges[..self.news.told] {
-            let range = RangeInWords {
-                thread: self.names.thread(range.thread),
-                from: range.from,
-                to: range.to,
-            };
+        for range in &self.ranges[..self.told] {
             write!(f, "{before}{range}")?;
             before = ", ";
         }
-        if self.news.more > 0 {
-            let more = Count(self.news.more, "message");
+        if self.more > 0 {
+            let more = Count(self.more, "message");
             write!(f, ", and {more} more")?;
         }
         Ok(())

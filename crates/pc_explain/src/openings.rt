@@ -2,21 +2,20 @@
 
 use crate::sentences::Sentences;
 use crate::versions::number_of;
-use crate::words::ThreadNames;
 use pc_calls::MOST_THREADS_TWO;
 use pc_messages::GREATEST_NUMBER;
 use pc_script::{MOST_LINE, Version};
 use std::fmt::{self, Write};
 
 /// The sentences on the line that names the version.
-pub(crate) fn on_version(version: Version) -> Sentences<'static> {
-    let mut sentences = Sentences::new(ThreadNames(None));
+pub(crate) fn on_version(version: Version) -> Sentences {
+    let mut sentences = Sentences::new();
     // Sentences take any text: what goes past their room is left out.
     let _ = tell_version(&mut sentences, version);
     sentences
 }
 
-fn tell_version(text: &mut Sentences<'_>, version: Version) -> fmt::Result {
+fn tell_version(text: &mut Sentences, version: Version) -> fmt::Result {
     match version {
         Version::One => Ok(()),
         Version::Two => {
@@ -34,7 +33,7 @@ fn tell_version(text: &mut Sentences<'_>, version: Version) -> fmt::Result {
 }
 
 /// What an enclave may have since a version.
-fn more_room(text: &mut Sentences<'_>, version: Version) -> fmt::Result {
+fn more_room(text: &mut Sentences, version: Version) -> fmt::Result {
     let number = number_of(version);
     write!(
         text,
@@ -44,8 +43,8 @@ fn more_room(text: &mut Sentences<'_>, version: Version) -> fmt::Result {
 }
 
 /// The sentences on a line that a session passed over.
-pub(crate) fn on_long_line() -> Sentences<'static> {
-    let mut sentences = Sentences::new(ThreadNames(None));
+pub(crate) fn on_long_line() -> Sentences {
+    let mut sentences = Sentences::new();
     let _ = writeln!(
         sentences,
         "The line is longer than {MOST_LINE} bytes, and was passed over."

@@ -2,9 +2,6 @@
 
 ghost use Rattle.std.specs.Prelude.{◌≤◌};
 
-use crate::words::ThreadNames;
-use pc_messages::Tid;
-use pc_remarks::NamedThread;
 use std::fmt;
 
 /// The most bytes of the sentences on one line of a script. What goes beyond is left out.
@@ -12,31 +9,19 @@ const ROOM: usize = 2_048;
 
 /// Sentences, each with a line feed at its end.
 #[derive(Drop)]
-pub(crate) struct Sentences<'n> {
-    names: ThreadNames<'n>,
+pub(crate) struct Sentences {
     bytes: [u8; ROOM],
     end: usize,
     ghost within: { end ≤ 2048 },
 }
 
-impl<'n> Sentences<'n> {
-    /// None yet. They tell threads by these names.
-    pub(crate) fn new(names: ThreadNames<'n>) -> Self {
+impl Sentences {
+    /// None yet.
+    pub(crate) fn new() -> Self {
         Sentences {
-            names,
             bytes: [0; ROOM],
             end: 0,
         }
-    }
-
-    /// The names by which they tell threads.
-    pub(crate) fn names(&self) -> ThreadNames<'n> {
-        self.names
-    }
-
-    /// A thread, as they tell it.
-    pub(crate) fn thread(&self, thread: Tid) -> NamedThread<'n> {
-        self.names.thread(thread)
     }
 
     /// Adds bytes at the end, as far as there is room.
@@ -53,7 +38,7 @@ impl<'n> Sentences<'n> {
     }
 }
 
-impl fmt::Write for Sentences<'_> {
+impl fmt::Write for Sentences {
     fn write_str(&mut self, text: &str) -> fmt::Result {
         self.add(text.as_bytes());
         Ok(())

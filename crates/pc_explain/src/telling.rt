@@ -31,7 +31,7 @@ pub(crate) struct CommandContext<'a> {
 
 /// Tells what a command changed, why it was refused, or what it was answered.
 pub(crate) fn tell(
-    text: &mut Sentences<'_>,
+    text: &mut Sentences,
     command: &Command,
     response: &Response,
     scene: &CommandContext<'_>,
@@ -41,7 +41,7 @@ pub(crate) fn tell(
 }
 
 fn told(
-    text: &mut Sentences<'_>,
+    text: &mut Sentences,
     command: &Command,
     response: &Response,
     scene: &CommandContext<'_>,
@@ -76,7 +76,7 @@ fn told(
 }
 
 /// There is a kernel with these limits.
-fn opened(text: &mut Sentences<'_>, limits: &Limits) -> fmt::Result {
+fn opened(text: &mut Sentences, limits: &Limits) -> fmt::Result {
     let cpus = Count(u64::from(limits.cpus), "CPU");
     let threads = Count(u64::from(limits.threads), "thread");
     let messages = Count(u64::from(limits.numbers), "message");
@@ -94,7 +94,7 @@ fn opened(text: &mut Sentences<'_>, limits: &Limits) -> fmt::Result {
 
 /// An event that was accepted.
 fn done(
-    text: &mut Sentences<'_>,
+    text: &mut Sentences,
     event: &Event,
     reply: &Reply,
     before: &Before,

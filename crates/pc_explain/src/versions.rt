@@ -64,7 +64,7 @@ pub(crate) fn version_with(line: &[u8]) -> Option<Version> {
 
 /// Tells that the first word is a command of another version than that of the script.
 pub(crate) fn of_another(
-    text: &mut Sentences<'_>,
+    text: &mut Sentences,
     word: &[u8],
     version: Version,
     other: Version,
@@ -83,7 +83,7 @@ pub(crate) fn of_another(
 
 /// Tells of a line whose first word is `version`, and which is a fault: another line came before it that is not silent,
 /// or its further words name no version.
-pub(crate) fn unnamed(text: &mut Sentences<'_>, is_first: bool, line: &[u8]) -> fmt::Result {
+pub(crate) fn unnamed(text: &mut Sentences, is_first: bool, line: &[u8]) -> fmt::Result {
     if is_first {
         wrong_words(text, line)?;
     } else {
@@ -106,7 +106,7 @@ fn is_number(word: &[u8]) -> bool {
 }
 
 /// Tells which word behind `version` is wrong.
-fn wrong_words(text: &mut Sentences<'_>, line: &[u8]) -> fmt::Result {
+fn wrong_words(text: &mut Sentences, line: &[u8]) -> fmt::Result {
     let Some((_, rest)) = first_word(line) else {
         return Ok(());
     };
@@ -124,7 +124,7 @@ fn wrong_words(text: &mut Sentences<'_>, line: &[u8]) -> fmt::Result {
 }
 
 /// Tells that the line ends before its third word.
-fn one_too_many(text: &mut Sentences<'_>, word: &[u8]) -> fmt::Result {
+fn one_too_many(text: &mut Sentences, word: &[u8]) -> fmt::Result {
     let quoted = QuotedWord(word);
     writeln!(text, "Word 3, `{quoted}`, is one too many.")
 }

@@ -1,23 +1,7 @@
 //! Parts of sentences.
 
-use pc_messages::Tid;
 pub(crate) use pc_pen::{Count, QuotedWord};
-use pc_remarks::{NamedThread, Names};
 use std::fmt;
-
-/// The names of threads that are known: those of a script's text, or none, as in a session.
-#[derive(Clone, Copy)]
-pub(crate) struct ThreadNames<'n>(pub(crate) Option<&'n Names>);
-
-impl<'n> ThreadNames<'n> {
-    /// A thread, by its name.
-    pub(crate) fn thread(self, thread: Tid) -> NamedThread<'n> {
-        match self.0 {
-            Some(names) => names.thread(thread),
-            None => NamedThread { thread, name: None },
-        }
-    }
-}
 
 /// The CPUs of a mask's bits: `CPU 0`, `CPUs 0, 1`.
 #[derive(Clone, Copy)]

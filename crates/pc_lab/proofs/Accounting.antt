@@ -72,15 +72,3 @@ pub same_stall : (load load' : Demand) (kernel kernel' : Reads) (t : ℕ) → lo
     → HasStalled load' kernel' t
 same_stall load load' kernel kernel' t of_load of_kernel stalled =
     subst (λ l. HasStalled l kernel' t) of_load (subst (λ r. HasStalled load r t) of_kernel stalled)
-
--- what threads ran is what they need, for one thread more
-pub run_more : (threads : List ThreadLoad) (ran : List ℕ) (place : ℕ) (thread : ThreadLoad) → place < length threads → place < length ran
-    → thread ≡ get_or threads place thread → get_or ran place 0 ≡ demand_of (need_of thread)
-    → take place ran ≡ map demand_of (map need_of (take place threads)) → take (place + 1) ran ≡ map demand_of (map need_of (take (place + 1) threads))
-run_more threads ran place thread low within there same before =
-    let split : take (place + 1) threads ≡ take place threads ++ thread ∷ [] = take_more threads place thread low ∙ ap (λ x. take place threads ++ x ∷ []) (sym there) in
-    let needed = map demand_of (map need_of (take place threads)) in
-    let more : map demand_of (map need_of (take (place + 1) threads)) ≡ needed ++ demand_of (need_of thread) ∷ [] =
-    ap (λ those. map demand_of (map need_of those)) split ∙ ap (map demand_of) (map-append need_of (take place threads) (thread ∷ []))
-    ∙ map-append demand_of (map need_of (take place threads)) (need_of thread ∷ []) in
-    take_more ran place 0 within ∙ ap (λ those. those ++ get_or ran place 0 ∷ []) before ∙ ap (λ ticks. needed ++ ticks ∷ []) same ∙ sym more

@@ -39,7 +39,7 @@ ended_one_more load before (first ∷ moments) moment =
 pub same_wait : (load : Demand) (moments : List Moment) (waiters : List Waiter) (tick t : ℕ) → AreBehind load moments waiters → t < length waiters
     → wait_in waiters tick t ≡ wait_behind load moments tick t
 same_wait load moments waiters tick t behind low =
-    ap (λ since. waited t since (level_in waiters t) tick) (behind.since t) ∙ ap (λ level. waited t (ready_since moments t) level tick) (behind.levels t low)
+    ap (λ since. waited since (level_in waiters t) tick) (behind.since t) ∙ ap (λ level. waited (ready_since moments t) level tick) (behind.levels t low)
 
 same_ended : (f g : ℕ → Wait) (told : Reply) → ((cpu thread : ℕ) → told ≡ reply.Committed cpu thread → f thread ≡ g thread) → ended_by f told ≡ ended_by g told
 same_ended f g reply.Done same = refl

@@ -1,6 +1,5 @@
 -- What a run adds up to.
-use Rattle.std.specs.Prelude.{◌≡◌, ℕ, nat_abs, ◌+◌, Bool, List, length, map, sum, sum_by, slice_get}
-use Rattle.std.specs.Prelude.{Some}
+use Rattle.std.specs.Prelude.{◌≡◌, ℕ, nat_abs, ◌+◌, Bool, List, length, sum_by, slice_get, Some}
 use Rattle.pc_kernel.specs.Reads.{Reads, reported_of}
 use Rattle.pc_messages.specs.declared.reported.Phase.TheVariants.{Dead}
 use Rattle.pc_messages.specs.declared.reported.Reported.{Reported}
@@ -29,14 +28,9 @@ AreEnded needs kernel =
 abbrev pub steps_in : Bool → List Need → ℕ
 steps_in keep needs = sum_by (λ need. length (steps_under keep need.steps)) needs
 
--- the ticks that threads ran are those that CPUs ran them
-abbrev pub IsShared : Summary → Type 0
-IsShared summary = sum summary.ran.items ≡ sum_by (λ time. time.ran) summary.times.items
-
--- A run of a load adds up: each thread has ended and ran for the ticks that it needs, CPUs ran for the ticks that
--- threads need, and there was a commit for each step and each preempt
+-- A run of a load adds up: each thread has ended, CPUs ran for the ticks that threads need, and there was a commit for
+-- each step and each preempt
 pub record AddsUp (load : Demand) (keep : Bool) (kernel : Reads) (summary : Summary) : Type 0 where
   pub done : AreEnded load.threads kernel
   pub ran : sum_by (λ time. time.ran) summary.times.items ≡ sum_by demand_of load.threads
-  pub each : summary.ran.items ≡ map demand_of load.threads
   pub commits : counted_in summary.tally Commit ≡ steps_in keep load.threads + summary.preempts

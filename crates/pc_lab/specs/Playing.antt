@@ -9,7 +9,7 @@ use Rattle.pc_lab.specs.declared.counted.Counted.{Counted}
 use Rattle.pc_lab.specs.declared.counted.Counted.TheVariants.{Commit}
 use Rattle.pc_lab.specs.declared.summary.RunEnding.TheVariants.{Done, Stalled}
 use Rattle.pc_lab.specs.declared.summary.Played.{Played}
-use Rattle.pc_lab.specs.Accounts.{AddsUp, IsShared}
+use Rattle.pc_lab.specs.Accounts.{AddsUp}
 use Rattle.pc_lab.specs.Counting.{count_of, counted_in}
 use Rattle.pc_lab.specs.Creations.{AreFirst, creations, creations_of}
 use Rattle.pc_lab.specs.Limits.{limits_for}
@@ -25,8 +25,7 @@ use Rattle.pc_lab.specs.Waiting.{ended_waits, unended_waits}
 -- event, none answers a digest or commits a thread by its name, and the threads that came are the load's first ones, as
 -- it has them. What is told is of these moments: the chronicle has their lines behind a text, counts count them, waits
 -- are those that they end, as many as there are commits, and those that they do not end, and the time of each CPU adds
--- up to the makespan; all that threads ran is all that CPUs ran. A run that is done adds up to the load, and one that
--- ends as stalled has stalled at that thread
+-- up to the makespan. A run that is done adds up to the load, and one that ends as stalled has stalled at that thread
 pub record IsPlayedBy (load : Demand) (policy : PolicyName) (keep : Bool) (before : List ℕ)
     (played : Played) : Type 0 where
   pub each : ℕ → Rules
@@ -48,6 +47,5 @@ pub record IsPlayedBy (load : Demand) (policy : PolicyName) (keep : Bool) (befor
       ≡ unended_waits load moments (shown plain.kernel) played.summary.makespan
   pub cpus : length played.summary.times.items ≡ (limits_for load).cpus
   pub times : All (IsWhole played.summary.makespan) played.summary.times.items
-  pub shared : IsShared played.summary
   pub adds_up : played.summary.ending ≡ Done → AddsUp load keep (shown plain.kernel) played.summary
   pub stalled : (t : ℕ) → played.summary.ending ≡ Stalled t → HasStalled load (shown plain.kernel) t

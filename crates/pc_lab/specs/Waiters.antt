@@ -24,7 +24,7 @@ level_in waiters t = (get_or waiters t nobody).level
 
 -- how long it has waited up to a tick
 abbrev pub wait_in : List Waiter → ℕ → ℕ → Wait
-wait_in waiters tick t = waited t (since_in waiters t) (level_in waiters t) tick
+wait_in waiters tick t = waited (since_in waiters t) (level_in waiters t) tick
 
 -- the same threads with the same levels, each ready since when the next says
 pub record AreNext (next : ℕ → Since) (old new : List Waiter) : Type 0 where

@@ -56,13 +56,12 @@ abbrev pub level_of : Demand → ℕ → ℕ
 level_of load t = option_map_or (λ need. nat_abs need.level) (slice_get load.threads t) 0
 
 -- how long a thread of a level that is ready since then has waited up to a tick
-abbrev pub waited : ℕ → Since → ℕ → ℕ → Wait
-waited t since level tick =
-    record { thread = t; ticks = tick - since.tick; level = level; is_woken = since.is_woken }
+abbrev pub waited : Since → ℕ → ℕ → Wait
+waited since level tick = record { ticks = tick - since.tick; level = level; is_woken = since.is_woken }
 
 -- how long a thread has waited up to a tick, behind these moments
 abbrev pub wait_behind : Demand → List Moment → ℕ → ℕ → Wait
-wait_behind load moments tick t = waited t (ready_since moments t) (level_of load t) tick
+wait_behind load moments tick t = waited (ready_since moments t) (level_of load t) tick
 
 -- the wait that a reply ends: that of the thread that runs from now on
 abbrev pub ended_by : (ℕ → Wait) → Reply → List Wait

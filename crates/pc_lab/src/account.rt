@@ -3,14 +3,13 @@
 ghost use Rattle.std.specs.Prelude.{◌≡◌, ◌+◌, ℕ, Some, true, IfOk, IfSome, OnOk, map, sum_by};
 ghost use Rattle.pc_kernel.specs.Reads.{reported_of, seen};
 ghost use Rattle.pc_load.specs.Loads.{need_of};
-ghost use Rattle.pc_lab.specs.Accounts.{AddsUp, AreEnded, IsShared, demand_of, ended, steps_in};
+ghost use Rattle.pc_lab.specs.Accounts.{AddsUp, AreEnded, demand_of, ended, steps_in};
 ghost use Rattle.pc_lab.specs.Stalling.{HasStalled};
 
 use crate::counted::Counted;
 use crate::fault::LabFault;
 use crate::stalls::has_stalled;
 use crate::summary::{RunEnding, Summary};
-use crate::sums::sum_of;
 use crate::times::CpuTime;
 use pc_kernel::Kernel;
 use pc_load::{Load, LoadStep, ThreadLoad};
@@ -104,28 +103,6 @@ fn is_run(threads: &[ThreadLoad], times: &[CpuTime]) -> bool
     }
 }
 
-/// Whether each thread ran for the ticks that it needs.
-fn have_run(threads: &[ThreadLoad], ran: &[u64]) -> bool
-    ensures { result ≡ true → ran.now ≡ map demand_of (map need_of threads.now) }
-{
-    if ran.len() != threads.len() {
-        return false;
-    }
-    for place in 0..threads.len() {
-        if ran[place] as u128 != ticks_of(threads[place].steps.as_slice()) {
-            return false;
-        }
-    }
-    true
-}
-
-/// Whether the ticks that threads ran are those that CPUs ran them.
-fn is_shared(summary: &Summary) -> bool
-    ensures { result ≡ true → IsShared summary.now }
-{
-    sum_of(summary.ran.as_slice()) == ran_in(summary.times.as_slice())
-}
-
 /// How many steps of all threads the lab runs.
 fn steps_in(alloc: Global, threads: &[ThreadLoad], keep: bool) -> Result<u128, AllocError>
     ensures { IfOk result (λ steps. steps ≡ steps_in keep (map need_of threads.now)) }
@@ -163,17 +140,13 @@ fn adds_up(
     if !have_ended(kernel, threads) || !is_run(threads, summary.times.as_slice()) {
         return Ok(false);
     }
-    if !have_run(threads, summary.ran.as_slice()) {
-        return Ok(false);
-    }
     let commits = summary.tally.of(Counted::Commit);
     Ok(is_committed(commits, steps, summary.preempts))
 }
 
-/// Holds what is told of a run against its load: the ticks that threads ran have to be those that CPUs ran them; where
-/// it is done, each thread has to have ended in the kernel, and its ticks, those that CPUs ran and the commits have to
-/// be those that the threads need; where it has stalled at a thread, that has to be so in the kernel (own). `keep` is
-/// whether recorded preempts are kept.
+/// Holds what is told of a run against its load: where it is done, each thread has to have ended in the kernel, and the
+/// ticks that CPUs ran and the commits have to be those that the threads need; where it has stalled at a thread, that
+/// has to be so in the kernel (own). `keep` is whether recorded preempts are kept.
 ///
 /// # Errors
 /// [`LabFault::Unaccounted`] and [`LabFault::OutOfMemory`].
@@ -188,11 +161,7 @@ pub fn check_account(
         → AddsUp load.now keep (seen kernel.now) summary.now) }
     ensures stalled { OnOk result ((t : ℕ) → summary.now.ending ≡ RunEnding.Stalled t
         → HasStalled load.now (seen kernel.now) t) }
-    ensures shared { OnOk result (IsShared summary.now) }
 {
-    if !is_shared(summary) {
-        return Err(LabFault::Unaccounted);
-    }
     match summary.ending {
         RunEnding::Done => {
             if !adds_up(alloc, load, keep, kernel, summary)? {

@@ -138,7 +138,7 @@ impl<K: Setting> Stage<K> {
     {
         let limits = limits_of(load);
         let policies = AgentPolicy::for_each(alloc, policy, limits.cpus)?;
-        let times = Times::new(alloc, limits.cpus, load.threads().len())?;
+        let times = Times::new(alloc, limits.cpus)?;
         let world = match World::new_by(alloc, Profile::One, limits, policies.as_slice()) {
             Ok(world) => world,
             // The limits of a load are within their ranges.
@@ -292,11 +292,9 @@ impl<K: Setting> Stage<K> {
             events,
             tally,
             waits,
-            times: kept,
             ..
         } = self;
         let Waits { ended, .. } = waits;
-        let ran = kept.ran_up_to(world.kernel(), tick);
         let summary = Summary {
             ending,
             makespan: tick,
@@ -307,7 +305,6 @@ impl<K: Setting> Stage<K> {
             waits: ended,
             unended,
             times,
-            ran,
         };
         check_account(alloc, load, keep, world.kernel(), &summary)?;
         Ok(Played { chronicle, summary })

@@ -39,8 +39,6 @@ pub struct Summary {
     pub unended: Vec<Wait>,
     /// What the time of each CPU went to.
     pub times: Vec<CpuTime>,
-    /// The ticks that each thread of the load ran, by their names.
-    pub ran: Vec<u64>,
 }
 
 /// A load that was played.

@@ -10,7 +10,7 @@ ghost use Rattle.pc_lab.specs.declared.times.Account.{Account};
 use crate::fault::LabFault;
 use pc_calls::Event;
 use pc_kernel::Kernel;
-use pc_messages::{Cpu, Tid};
+use pc_messages::Cpu;
 use std::alloc::Global;
 
 /// What the time of a CPU went to, in ticks (own).
@@ -70,17 +70,6 @@ struct Words {
 pub(crate) struct Times {
     pub accounts: Vec<Account>,
     words: Words,
-    /// The ticks that each thread ran, by their names, as far as the accounts are brought.
-    ran: Vec<u64>,
-}
-
-/// The thread that runs on a CPU, unless the CPU's agent is in a turn.
-fn runner_on(kernel: &Kernel, words: Words, cpu: Cpu) -> Option<Tid> {
-    if has(words.in_turns, cpu) {
-        None
-    } else {
-        kernel.running(cpu)
-    }
 }
 
 /// What a CPU does.
@@ -88,7 +77,7 @@ fn work_of(kernel: &Kernel, words: Words, cpu: Cpu) -> Doing {
     if has(words.in_turns, cpu) {
         return Doing::Turn;
     }
-    match runner_on(kernel, words, cpu) {
+    match kernel.running(cpu) {
         Some(_) => Doing::Running,
         None => Doing::Idling {
             one_waits: has(words.wanted, cpu),
@@ -136,16 +125,6 @@ fn brought(account: Account, doing: Doing, now: u64) -> Account
     }
 }
 
-/// Who ran on a CPU for so many ticks, if somebody did, ran for these more.
-fn add_run(ran: &mut [u64], runner: Option<Tid>, ticks: u64) {
-    let Some(thread) = runner else {
-        return;
-    };
-    if let Some(sum) = ran.get_mut(thread.index() as usize) {
-        *sum = sum.saturating_add(ticks);
-    }
-}
-
 /// The accounts of so many CPUs, of which no time has gone by.
 fn new_accounts(alloc: Global, cpus: u8) -> Result<Vec<Account>, LabFault>
     ensures kept { IfOk result (λ accounts. All (IsKept 0) accounts.items) }
@@ -167,8 +146,8 @@ fn new_accounts(alloc: Global, cpus: u8) -> Result<Vec<Account>, LabFault>
 }
 
 impl Times {
-    /// No time has gone by on so many CPUs, on which nothing is done, for so many threads.
-    pub(crate) fn new(alloc: Global, cpus: u8, threads: usize) -> Result<Times, LabFault>
+    /// No time has gone by on so many CPUs, on which nothing is done.
+    pub(crate) fn new(alloc: Global, cpus: u8) -> Result<Times, LabFault>
         ensures kept { IfOk result (λ times. All (IsKept 0) times.accounts.items) }
         ensures many { IfOk result (λ times. length times.accounts.items ≡ cpus) }
     {
@@ -179,7 +158,6 @@ impl Times {
                 in_turns: 0,
                 wanted: 0,
             },
-            ran: vec![in alloc; 0; threads]?,
         })
     }
 
@@ -201,9 +179,6 @@ impl Times {
             return;
         }
         let doing = work_of(kernel, self.words, cpu);
-        let runner = runner_on(kernel, self.words, cpu);
-        let ticks = now.saturating_sub(self.accounts[place].upto);
-        add_run(&mut self.ran, runner, ticks);
         self.accounts[place] = brought(self.accounts[place], doing, now);
     }
 
@@ -277,21 +252,5 @@ impl Times {
             cpu = cpu.wrapping_add(1);
         }
         Ok(times)
-    }
-
-    /// The ticks that each thread ran up to now, by their names.
-    pub(crate) fn ran_up_to(self, kernel: &Kernel, now: u64) -> Vec<u64> {
-        let Times {
-            accounts,
-            words,
-            mut ran,
-        } = self;
-        let mut cpu = 0;
-        for account in &accounts {
-            let ticks = now.saturating_sub(account.upto);
-            add_run(&mut ran, runner_on(kernel, words, Cpu(cpu)), ticks);
-            cpu = cpu.wrapping_add(1);
-        }
-        ran
     }
 }

@@ -18,8 +18,6 @@ use std::alloc::Global;
 /// How long a thread was ready before it ran, in ticks (own).
 #[derive(Clone, Copy, Debug, PartialEq, Eq)]
 pub struct Wait {
-    /// The thread that waited.
-    pub thread: Tid,
     pub ticks: u64,
     /// The thread's level, of the load.
     pub level: u8,
@@ -138,7 +136,6 @@ impl Waits {
         }
         let waiter = &self.waiters[place];
         Ok(Wait {
-            thread,
             ticks: tick.saturating_sub(waiter.since),
             level: waiter.level,
             is_woken: waiter.is_woken,

@@ -2,25 +2,23 @@
 use Rattle.std.specs.Prelude.{ℕ, ℤ, pos, nat_abs, ◌+◌, ◌^◌, ◌-◌, ◌==◌, Bool, true, false, not, ◌&&◌, nat_le, nat_lt}
 use Rattle.std.specs.Prelude.{int_le}
 use Rattle.std.specs.Prelude.{int_lt, if◌then◌else◌, List, [], ◌∷◌, length, map, position}
-use Rattle.std.specs.Prelude.{count_by, Option, string_bytes}
+use Rattle.std.specs.Prelude.{count_by, Option}
 use Rattle.std.specs.List.{list_all}
 use Rattle.std.specs.Option.{option_map_or}
 use Rattle.pc_messages.specs.Mask.{allows}
 use Rattle.pc_calls.specs.Conditions.{first_of}
 use Rattle.pc_calls.specs.declared.limits.TheConstants.{MOST_CPUS, MOST_THREADS}
-use Rattle.pc_load.specs.declared.load.TheConstants.{MOST_STEPS, MOST_LEVEL, MOST_LABEL, LAST_TICK}
+use Rattle.pc_load.specs.declared.load.TheConstants.{MOST_STEPS, MOST_LEVEL, LAST_TICK}
 use Rattle.pc_calls.specs.declared.leaving.Leaving.{Leaving}
 use Rattle.pc_calls.specs.declared.leaving.Leaving.TheVariants.{Block, Die}
 use Rattle.pc_load.specs.declared.load.LoadStep.{LoadStep}
 use Rattle.pc_load.specs.declared.load.ThreadDraft.{ThreadDraft}
 use Rattle.pc_load.specs.declared.load.ThreadLoad.{ThreadLoad}
-use Rattle.pc_load.specs.declared.load.Waker.{Waker}
 use Rattle.pc_load.specs.declared.load.LoadFault.{LoadFault}
 use Rattle.pc_load.specs.declared.load.LoadFault.TheVariants.{BadCpus, BadUntil, TooManyThreads, BadThread, BadLoad}
 
 -- what a thread needs: its first queue, the CPUs that it may run on, its steps in order, the tick of its creation, its
--- level, and for how many ticks it sleeps behind its first block, its second ..; and what was recorded of it: its name,
--- its number, its group, and who may wake it behind its first block, its second ..
+-- level, and for how many ticks it sleeps behind its first block, its second ..
 pub record Need : Type 0 where
   pub queue : ℤ
   pub mask : ℤ
@@ -28,10 +26,6 @@ pub record Need : Type 0 where
   pub start : ℤ
   pub level : ℤ
   pub sleeps : List ℤ
-  pub name : List ℕ
-  pub pid : ℤ
-  pub group : List ℕ
-  pub wakers : List (List Waker)
 
 -- how many CPUs, the tick in front of whose things a run stops, and the threads in the order of their creation
 pub record Demand : Type 0 where
@@ -48,10 +42,6 @@ drafted draft = record {
   start = draft.start;
   level = draft.level;
   sleeps = draft.sleeps.items;
-  name = string_bytes draft.name;
-  pid = draft.pid;
-  group = string_bytes draft.group;
-  wakers = map (λ those. those.items) draft.wakers.items;
 }
 
 -- what a thread of a load needs
@@ -63,10 +53,6 @@ need_of load = record {
   start = pos load.start;
   level = pos load.level;
   sleeps = map pos load.sleeps.items;
-  name = string_bytes load.name;
-  pid = pos load.pid;
-  group = string_bytes load.group;
-  wakers = map (λ those. those.items) load.wakers.items;
 }
 
 -- so many CPUs, a tick in front of whose things a run stops, and these threads
@@ -118,37 +104,18 @@ is_life steps = dies_last MOST_STEPS (length steps) (position (λ step. dies ste
 abbrev pub is_thread : ℕ → Need → Bool
 is_thread cpus need = is_cpu cpus need.queue && is_mask cpus need.mask && is_life need.steps
 
--- how many of the steps are blocks
-abbrev pub block_count : List LoadStep → ℕ
-block_count steps = count_by (λ step. blocks step.leaving) steps
-
 -- for no more than its blocks is told how long it sleeps, a u32 for each
 abbrev pub are_sleeps : List LoadStep → List ℤ → Bool
-are_sleeps steps sleeps = nat_le (length sleeps) (block_count steps) && list_all is_u32 sleeps
-
--- a text of at most MOST_LABEL bytes
-abbrev pub is_label : List ℕ → Bool
-is_label text = nat_le (length text) MOST_LABEL
-
--- its name and its group are short, its number is a u32, and for no more than its blocks is told who may wake it
-abbrev pub is_recorded : Need → Bool
-is_recorded need =
-    is_label need.name
-    && is_u32 need.pid
-    && is_label need.group
-    && nat_le (length need.wakers) (block_count need.steps)
+are_sleeps steps sleeps =
+    nat_le (length sleeps) (count_by (λ step. blocks step.leaving) steps) && list_all is_u32 sleeps
 
 -- it may run at home, does not come before the thread in front of it, and has a level and sleeps
-abbrev pub is_played : ℤ → Need → Bool
-is_played before need =
+abbrev pub is_load : ℤ → Need → Bool
+is_load before need =
     allows (nat_abs need.mask) (nat_abs need.queue)
     && (int_le before need.start && is_u32 need.start)
     && is_between 0 MOST_LEVEL need.level
     && are_sleeps need.steps need.sleeps
-
--- the same, and what was recorded of it can be
-abbrev pub is_load : ℤ → Need → Bool
-is_load before need = is_played before need && is_recorded need
 
 -- what may be wrong with the threads from one place on, behind one that comes at this tick
 abbrev pub thread_faults : ℕ → ℤ → ℕ → List Need → List (Bool × LoadFault)

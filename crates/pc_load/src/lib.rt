@@ -11,8 +11,8 @@ mod load;
 mod variant;
 
 pub use load::{
-    LAST_TICK, Load, LoadFault, LoadStep, MOST_LABEL, MOST_LEVEL, MOST_STEPS, ThreadDraft,
-    ThreadLoad, Waker, count_of_cpus, dies_last, is_cpu, is_mask,
+    LAST_TICK, Load, LoadFault, LoadStep, MOST_LEVEL, MOST_STEPS, ThreadDraft, ThreadLoad,
+    count_of_cpus, dies_last, is_cpu, is_mask,
 };
 pub use variant::{
     MOST_GROUP, MOST_NAME, MOST_VARIANTS, Variant, VariantDraft, VariantFault, Variants,

@@ -24,9 +24,6 @@ pub const MOST_STEPS: usize = 100_000;
 /// The highest level.
 pub const MOST_LEVEL: u8 = 7;
 
-/// The most bytes of a thread's name, and of its group.
-pub const MOST_LABEL: usize = 64;
-
 /// The last tick in front of whose things a run can stop.
 pub const LAST_TICK: u64 = 9_223_372_036_854_775_807;
 
@@ -37,24 +34,13 @@ pub struct LoadStep {
     pub ticks: u32,
 }
 
-/// When a thread may be woken: once another one has run so far.
-#[derive(Clone, Copy, Debug, PartialEq, Eq)]
-pub struct Waker {
-    /// The thread that wakes, by its place in the load.
-    pub thread: u32,
-    /// Which of its spans it runs then: the steps up to its first block are the first one, 0.
-    pub span: u32,
-    /// For how many ticks of that span it has run then.
-    pub ticks: u32,
-}
-
 /// What a thread is said to need, in the numbers of a text (own).
 #[derive(Debug, Drop)]
 pub struct ThreadDraft {
     /// The queue of its messages at first: a CPU.
     pub queue: i64,
-    /// The CPUs that it may run on: bit `c` stands for CPU `c`. It is wide enough for CPU 63, and for numbers below 0.
-    pub mask: i128,
+    /// The CPUs that it may run on: bit `c` stands for CPU `c`. A mask with bit 63 cannot be written so.
+    pub mask: i64,
     /// Its steps, the first one first.
     pub steps: Vec<LoadStep>,
     /// The tick of its creation.
@@ -63,14 +49,6 @@ pub struct ThreadDraft {
     pub level: i64,
     /// For how many ticks it is blocked behind its first block, its second, ..
     pub sleeps: Vec<i64>,
-    /// What it is called on the machine that was recorded; empty where nothing is told.
-    pub name: String,
-    /// Its number there.
-    pub pid: i64,
-    /// The group by which it is told.
-    pub group: String,
-    /// Who may wake it behind its first block, its second, ..
-    pub wakers: Vec<Vec<Waker>>,
 }
 
 /// What a thread needs (own).
@@ -88,14 +66,6 @@ pub struct ThreadLoad {
     pub level: u8,
     /// For how many ticks it is blocked behind its first block, its second, ..: none where fewer are told.
     pub sleeps: Vec<u32>,
-    /// What it is called on the machine that was recorded: at most [`MOST_LABEL`] bytes, and none where none are told.
-    pub name: String,
-    /// Its number there; 0 where none is told.
-    pub pid: u32,
-    /// The group by which it is told, in at most [`MOST_LABEL`] bytes; its name where the load tells none.
-    pub group: String,
-    /// Who may wake it behind its first block, its second, ..: nobody where fewer are told.
-    pub wakers: Vec<Vec<Waker>>,
 }
 
 /// Why what is asked for is no load.
@@ -113,8 +83,8 @@ pub enum LoadFault {
     /// The thread with this place has no queue, mask or steps as they have to be.
     #[error("thread {0} is none")]
     BadThread(usize),
-    /// The thread with this place may not run at home, comes before the one in front of it, has no level or sleeps as
-    /// they have to be, or no name, number, group or wakers.
+    /// The thread with this place may not run at home, comes before the one in front of it, or has no level or sleeps
+    /// as they have to be.
     #[error("thread {0} is no load")]
     BadLoad(usize),
     /// A growth was refused.

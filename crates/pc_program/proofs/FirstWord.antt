@@ -11,7 +11,7 @@ use Rattle.clap.specs.Walk.{Text, Walk, finished, nothing_held, settled, stop_af
 use Rattle.clap.proofs.FaultLemmas.{stopped_fault}
 use Rattle.clap.proofs.OnLiterals.{clap_on_literals}
 use Rattle.clap.proofs.WalkLemmas.{walk_stopped}
-use Rattle.pc_program.specs.CommandLine.{drawing, importing, lab, of_file, only, pc_sim, run, session}
+use Rattle.pc_program.specs.CommandLine.{drawing, lab, of_file, only, pc_sim, run, session}
 use Rattle.pc_program.specs.Inner.FirstWord.{first_word, program_for}
 use Rattle.pc_program.proofs.Commands.{simple, simple_and_free}
 
@@ -95,13 +95,6 @@ lab_alone program words =
     let all = reads pc_sim program (codes "lab") words refl refl refl in
     (alone.0 ∙ sym all.0, alone.1 ∙ sym all.1)
 
-import_alone : (program : Text) (words : List Text) → ReadsAll (program ∷ codes "import" ∷ words) (only importing)
-unfolding clap_on_literals
-import_alone program words =
-    let alone = reads (only importing) program (codes "import") words refl refl refl in
-    let all = reads pc_sim program (codes "import") words refl refl refl in
-    (alone.0 ∙ sym all.0, alone.1 ∙ sym all.1)
-
 -- what holds of the first of two where it is chosen, and of the other, holds of the choice
 pick : {X : Type 0} (P : X → Type 0) (b : Bool) (x y : X) → (b ≡ true → P x) → P y → P (if b then x else y)
 pick P true x y first other = first refl
@@ -116,30 +109,29 @@ chosen P word name command others alone other =
 
 -- what holds of each command's parser at its name, and of that of all at each word, holds of the parser for a word
 each_word : (P : Text → App → Type 0) → P (codes "replay") (only (of_file (codes "replay"))) → P (codes "explain") (only (of_file (codes "explain")))
-    → P (codes "draw") (only drawing) → P (codes "run") (only run) → P (codes "session") (only session) → P (codes "lab") (only lab) → P (codes "import") (only importing)
+    → P (codes "draw") (only drawing) → P (codes "run") (only run) → P (codes "session") (only session) → P (codes "lab") (only lab)
     → ((word : Text) → P word pc_sim) → (word : Text) → P word (program_for word)
-each_word P replays explains draws runs talks compares imports all word =
+each_word P replays explains draws runs talks compares all word =
     chosen P word (codes "replay") _ _ replays
     (chosen P word (codes "explain") _ _ explains
     (chosen P word (codes "draw") _ _ draws
     (chosen P word (codes "run") _ _ runs
-    (chosen P word (codes "session") _ _ talks
-    (chosen P word (codes "lab") _ _ compares (chosen P word (codes "import") _ None imports (all word)))))))
+    (chosen P word (codes "session") _ _ talks (chosen P word (codes "lab") _ None compares (all word))))))
 
 reads_all : (words : List Text) → ReadsAll words (program_for (first_word words))
 reads_all [] = (refl, refl)
 reads_all (program ∷ []) = (refl, refl)
 reads_all (program ∷ word ∷ words) =
     each_word (λ w a. ReadsAll (program ∷ w ∷ words) a) (replay_alone program words) (explain_alone program words) (draw_alone program words)
-    (run_alone program words) (session_alone program words) (lab_alone program words) (import_alone program words) (λ w. (refl, refl)) word
+    (run_alone program words) (session_alone program words) (lab_alone program words) (λ w. (refl, refl)) word
 
 each_simple : (word : Text) → is_simple (program_for word) ≡ true
 unfolding clap_on_literals
-each_simple = each_word (λ _ a. is_simple a ≡ true) refl refl refl refl refl refl refl (λ _. simple)
+each_simple = each_word (λ _ a. is_simple a ≡ true) refl refl refl refl refl refl (λ _. simple)
 
 each_free : (word : Text) → is_simple_and_free (program_for word) ≡ true
 unfolding clap_on_literals
-each_free = each_word (λ _ a. is_simple_and_free a ≡ true) refl refl refl refl refl refl refl (λ _. simple_and_free)
+each_free = each_word (λ _ a. is_simple_and_free a ≡ true) refl refl refl refl refl refl (λ _. simple_and_free)
 
 -- what clap wants of the parser for the first word, and what it then says, as of the parser with all commands
 module _ (a : App) (words : List Text) (is : a ≡ program_for (first_word words)) where

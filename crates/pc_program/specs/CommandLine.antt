@@ -20,9 +20,7 @@ use Rattle.pc_program.specs.Numbers.{IsWritten, SpellsNone}
 use Rattle.pc_program.specs.Seeds.{AreNumbers}
 use Rattle.pc_program.specs.declared.command_line.ProgramCommand.{ProgramCommand}
 use Rattle.pc_program.specs.declared.command_line.ProgramCommand.TheVariants.{Replay, Explain, Draw, Run, Tally}
-use Rattle.pc_program.specs.declared.command_line.ProgramCommand.TheVariants.{Session, Lab, Import}
-use Rattle.pc_program.specs.declared.command_line.ImportFiles.{ImportFiles}
-use Rattle.pc_program.specs.declared.command_line.ImportLoad.{ImportLoad}
+use Rattle.pc_program.specs.declared.command_line.ProgramCommand.TheVariants.{Session, Lab}
 use Rattle.pc_program.specs.declared.command_line.VariantsFrom.{VariantsFrom}
 use Rattle.pc_program.specs.declared.command_line.VariantsFrom.TheVariants as from
 use Rattle.pc_program.specs.declared.command_line.CommandFault.{CommandFault}
@@ -91,48 +89,16 @@ run =
 abbrev pub session : App
 session = with_rule (of_file (codes "session")) (flag (codes "explain"))
 
--- lab [FILE] [--variants FILE] [--per-cpu] [--by-group] [--csv] [--picture] [--script NAME]
+-- lab [FILE] [--variants FILE] [--per-cpu] [--csv] [--picture] [--script NAME]
 abbrev pub lab : App
 lab =
     with_rule
     (with_rule
     (with_rule
-    (with_rule
     (with_rule (with_rule (of_file (codes "lab")) (option (codes "variants"))) (flag (codes "per-cpu")))
-    (flag (codes "by-group")))
     (flag (codes "csv")))
     (flag (codes "picture")))
     (option (codes "script"))
-
--- --limit NUMBER of what is read
-abbrev pub most : Rule
-most = record (option (codes "limit")) { parser = Some (Unsigned 0 18446744073709551615) }
-
--- import [FILE] [--script FILE] [--load FILE] [--settings FILE] [--waits FILE] [--times] [--kernel-threads]
--- [--cpus NUMBERS] [--window NUMBERS] [--all] [--group-by GROUPS] [--levels LEVELS] [--limit NUMBER]
-abbrev pub importing : App
-importing =
-    with_rule
-    (with_rule
-    (with_rule
-    (with_rule
-    (with_rule
-    (with_rule
-    (with_rule
-    (with_rule
-    (with_rule
-    (with_rule
-    (with_rule (with_rule (of_file (codes "import")) (option (codes "script"))) (option (codes "load")))
-    (option (codes "settings")))
-    (option (codes "waits")))
-    (flag (codes "times")))
-    (flag (codes "kernel-threads")))
-    (option (codes "cpus")))
-    (option (codes "window")))
-    (flag (codes "all")))
-    (option (codes "group-by")))
-    (option (codes "levels")))
-    most
 
 -- the program without a command, which has a version, wants a command, and has no command `help`
 abbrev pub program : App
@@ -148,14 +114,12 @@ pc_sim =
     (with_subcommand
     (with_subcommand
     (with_subcommand
-    (with_subcommand
     (with_subcommand program (of_file (codes "replay")).top)
     (of_file (codes "explain")).top)
     drawing.top)
     run.top)
     session.top)
-    lab.top)
-    importing.top
+    lab.top
 
 -- the program with this command alone
 abbrev pub only : App → App
@@ -258,22 +222,8 @@ IsPolicy (Some text) policy = names.IsPolicy text policy
 abbrev pub NamesNone : Text → Type 0
 NamesNone text = (policy : PolicyName) → names.IsPolicy text policy → ⊥
 
--- an option of a command that takes numbers
-abbrev pub TakesNumbers : (command option : Text) → Type 0
-TakesNumbers command option =
-    ((command ≡ codes "draw") × ((option ≡ codes "cpus") ⊎ (option ≡ codes "lines")))
-    ⊎ ((command ≡ codes "import") × ((option ≡ codes "cpus") ⊎ (option ≡ codes "window")))
-
--- the fault of numbers: memory was wanting, or the word behind this option spells none
-abbrev pub AreNoNumbers : (option : Text) → List Row → CommandFault → Type 0
-AreNoNumbers option rows OutOfMemory = Unit {0}
-AreNoNumbers option rows (BadNumbers at word) = (at.now ≡ option) × IsNoNumbers at.now (string_bytes word) rows
-AreNoNumbers option rows (BadPolicy word why) = ⊥
-AreNoNumbers option rows (BadRuns why) = ⊥
-AreNoNumbers option rows (Clap error) = ⊥
-
--- what is wrong with the words of a command that clap takes: a part of a picture or of a recording that is no numbers,
--- a policy of a run that is none, or several runs that cannot be asked for so
+-- what is wrong with the words of a command that clap takes: a part of a picture that is no numbers, a policy of a
+-- run that is none, or several runs that cannot be asked for so
 abbrev pub IsWrongIn : Option (Text × List Row) → CommandFault → Type 0
 IsWrongIn met OutOfMemory = Unit {0}
 IsWrongIn met (Clap error) = Unit {0}
@@ -281,7 +231,8 @@ IsWrongIn None (BadNumbers option word) = ⊥
 IsWrongIn None (BadPolicy word why) = ⊥
 IsWrongIn None (BadRuns why) = ⊥
 IsWrongIn (Some met) (BadNumbers option word) =
-    TakesNumbers met.0 option.now × IsNoNumbers option.now (string_bytes word) met.1
+    (met.0 ≡ codes "draw") × ((option.now ≡ codes "cpus") ⊎ (option.now ≡ codes "lines"))
+    × IsNoNumbers option.now (string_bytes word) met.1
 IsWrongIn (Some met) (BadPolicy word why) =
     (met.0 ≡ codes "run") × (first_of (codes "policy") met.1 ≡ Some (string_bytes word))
     × NamesNone (string_bytes word)
@@ -293,25 +244,6 @@ abbrev pub IsFrom : Option Text → VariantsFrom → Type 0
 IsFrom word from.Load = word ≡ None
 IsFrom word from.Input = word ≡ Some (codes "-")
 IsFrom word (from.File name) = (word ≡ Some (string_bytes name)) × (string_bytes name ≢ codes "-")
-
--- these files are named behind options
-abbrev pub AreFiles : List Row → ImportFiles → Type 0
-AreFiles rows files =
-    (option_map string_bytes files.script ≡ first_of (codes "script") rows)
-    × (option_map string_bytes files.load ≡ first_of (codes "load") rows)
-    × (option_map string_bytes files.settings ≡ first_of (codes "settings") rows)
-    × (option_map string_bytes files.waits ≡ first_of (codes "waits") rows)
-
--- what loads and waits tell is chosen behind options
-abbrev pub AreTold : List Row → ImportLoad → Type 0
-AreTold rows told =
-    IsSpelled (first_of (codes "window") rows) told.window × (IsTrue told.all ↔ IsSet (codes "all") rows)
-    × (option_map string_bytes told.groups ≡ first_of (codes "group-by") rows)
-    × (option_map string_bytes told.levels ≡ first_of (codes "levels") rows)
-
--- the greatest number that an option's word spells, if it spells one
-abbrev pub IsMost : Option Text → Option ℕ → Type 0
-IsMost word given = IsNumber 64 word given
 
 -- the command with this name and these values is asked for
 abbrev pub IsAsked : Option (Text × List Row) → ProgramCommand → Type 0
@@ -331,15 +263,11 @@ IsAsked (Some met) (Tally given seconds policy seeds) =
     × IsRuns (one_of (codes "runs") met.1) (Some seeds.many) × AreSeeds seeds × AsksForTotals met.1
 IsAsked (Some met) (Session given explains) =
     IsOf (codes "session") (option_map string_bytes given) met × (IsTrue explains ↔ IsSet (codes "explain") met.1)
-IsAsked (Some met) (Lab given variants each groups csv picture script) =
+IsAsked (Some met) (Lab given variants each csv picture script) =
     IsOf (codes "lab") (option_map string_bytes given) met × IsFrom (first_of (codes "variants") met.1) variants
-    × (IsTrue each ↔ IsSet (codes "per-cpu") met.1) × (IsTrue groups ↔ IsSet (codes "by-group") met.1)
-    × (IsTrue csv ↔ IsSet (codes "csv") met.1) × (IsTrue picture ↔ IsSet (codes "picture") met.1)
+    × (IsTrue each ↔ IsSet (codes "per-cpu") met.1) × (IsTrue csv ↔ IsSet (codes "csv") met.1)
+    × (IsTrue picture ↔ IsSet (codes "picture") met.1)
     × (option_map string_bytes script ≡ first_of (codes "script") met.1)
-IsAsked (Some met) (Import given files told times kernel_threads cpus limit) =
-    IsOf (codes "import") (option_map string_bytes given) met × AreFiles met.1 files × AreTold met.1 told
-    × (IsTrue times ↔ IsSet (codes "times") met.1) × (IsTrue kernel_threads ↔ IsSet (codes "kernel-threads") met.1)
-    × IsSpelled (first_of (codes "cpus") met.1) cpus × IsMost (one_of (codes "limit") met.1) limit
 
 -- want of memory, numbers, a policy or seeds that are none where there is no other fault, or one of these kinds, of
 -- which help and the version are two
@@ -355,4 +283,4 @@ abbrev pub IsCommandMet : Option (Text × List Row) → Type 0
 IsCommandMet None = ⊥
 IsCommandMet (Some met) =
     (met.0 ≡ codes "replay") ⊎ (met.0 ≡ codes "explain") ⊎ (met.0 ≡ codes "draw") ⊎ (met.0 ≡ codes "run")
-    ⊎ (met.0 ≡ codes "session") ⊎ (met.0 ≡ codes "lab") ⊎ (met.0 ≡ codes "import")
+    ⊎ (met.0 ≡ codes "session") ⊎ (met.0 ≡ codes "lab")

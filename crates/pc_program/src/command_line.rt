@@ -6,10 +6,9 @@ ghost use Rattle.clap.specs.Walk.{first_of, one_of, rows_of};
 ghost use Rattle.clap.specs.Simple.{subcommand_of, subcommand_rows_of};
 ghost use Rattle.clap.specs.Faults.{fault_of};
 ghost use Rattle.clap.specs.Matches.{found_of};
-ghost use Rattle.pc_program.specs.CommandLine.{AreFiles, AreNoNumbers, AreNoRuns, AreSeeds, AsksForTotals};
-ghost use Rattle.pc_program.specs.CommandLine.{IsAsked, IsAxis, IsCommandMet, IsFrom, IsInput, IsLimit, IsMost, IsPart};
-ghost use Rattle.pc_program.specs.CommandLine.{IsPolicy, IsRefusal, IsReportForm, IsRuns, IsSeed, IsSpelled};
-ghost use Rattle.pc_program.specs.CommandLine.{IsWrongIn, NamesNone, pc_sim};
+ghost use Rattle.pc_program.specs.CommandLine.{AreNoRuns, AreSeeds, AsksForTotals, IsAsked, IsAxis, IsCommandMet};
+ghost use Rattle.pc_program.specs.CommandLine.{IsFrom, IsInput, IsLimit, IsPart, IsPolicy, IsRefusal, IsReportForm};
+ghost use Rattle.pc_program.specs.CommandLine.{IsRuns, IsSeed, IsSpelled, IsWrongIn, NamesNone, pc_sim};
 ghost use Rattle.pc_program.specs.Inner.FirstWord.{first_word};
 
 mod parsers;
@@ -82,8 +81,6 @@ pub enum ProgramCommand {
         variants: VariantsFrom,
         /// Whether the time of each CPU is told.
         per_cpu: bool,
-        /// Whether each group of threads is told.
-        by_group: bool,
         /// Whether the table is written for other tools.
         csv: bool,
         /// Whether the waits are drawn, in place of the table.
@@ -91,43 +88,6 @@ pub enum ProgramCommand {
         /// The variant whose run is written as a script, in place of the table.
         script: Option<String>,
     },
-    /// Turn a recording of the Linux scheduler into texts of this program.
-    Import {
-        file: Option<String>,
-        /// Into which files they are written.
-        files: ImportFiles,
-        /// What a load and waits tell.
-        told: ImportLoad,
-        /// Whether the script tells the time.
-        times: bool,
-        /// Whether the kernel's own threads are told, too.
-        kernel_threads: bool,
-        /// Which CPUs are told, by their numbers in the recording; all where there are none.
-        cpus: Option<Interval>,
-        /// How many events are read at most.
-        limit: Option<u64>,
-    },
-}
-
-/// The files into which texts of a recording are written (own); what has none is not made.
-#[derive(Debug, Drop)]
-pub struct ImportFiles {
-    pub script: Option<String>,
-    pub load: Option<String>,
-    pub settings: Option<String>,
-    pub waits: Option<String>,
-}
-
-/// What of a recording a load and waits tell (own).
-#[derive(Debug, Drop)]
-pub struct ImportLoad {
-    /// Which microseconds behind the first event, both included.
-    pub window: Option<Interval>,
-    /// Whether all time is told, and not that alone in which all CPUs are recorded.
-    pub all: bool,
-    /// By what threads are groups, and which levels they have: a text each, as they stand.
-    pub groups: Option<String>,
-    pub levels: Option<String>,
 }
 
 /// Where the variants of a load come from (own).
@@ -249,8 +209,6 @@ fn command_of(alloc: Global, matches: &ArgMatches<'_>) -> Result<ProgramCommand,
         drawing_of(alloc, file, met)
     } else if name == "lab" {
         Ok(lab_of(alloc, file, met)?)
-    } else if name == "import" {
-        import_of(alloc, file, met)
     } else {
         Ok(ProgramCommand::Replay { file })
     }
@@ -289,7 +247,7 @@ fn single_of(
     requires single { IsRuns (one_of (codes "runs") (rows_of (found_of met.now))) None }
     ensures { IfOk result (IsAsked (Some (codes "run", rows_of (found_of met.now)))) }
 {
-    let script = name_behind(alloc, met, "script")?;
+    let script = script_of(alloc, met)?;
     Ok(ProgramCommand::Run {
         file,
         form: form_of(met),
@@ -376,76 +334,14 @@ fn lab_of(
     ensures { IfOk result (IsAsked (Some (codes "lab", rows_of (found_of met.now)))) }
 {
     let variants = variants_of(alloc, met)?;
-    let script = name_behind(alloc, met, "script")?;
+    let script = script_of(alloc, met)?;
     Ok(ProgramCommand::Lab {
         file,
         variants,
         per_cpu: is_set(met, "per-cpu"),
-        by_group: is_set(met, "by-group"),
         csv: is_set(met, "csv"),
         picture: is_set(met, "picture"),
         script,
-    })
-}
-
-/// What the matches of `import` ask for, of the recording in this file.
-fn import_of(
-    alloc: Global,
-    file: Option<String>,
-    met: &ArgMatches<'_>,
-) -> Result<ProgramCommand, CommandFault>
-    requires { IsInput (first_of (codes "FILE") (rows_of (found_of met.now))) (option_map string_bytes file) }
-    ensures asked { IfOk result (IsAsked (Some (codes "import", rows_of (found_of met.now)))) }
-    ensures own { IfErr result (IsRefusal []) }
-    ensures wrong { IfErr result (IsWrongIn (Some (codes "import", rows_of (found_of met.now)))) }
-{
-    let cpus = numbers_of(alloc, met, "cpus")?;
-    let window = numbers_of(alloc, met, "window")?;
-    let files = files_of(alloc, met)?;
-    let told = told_of(alloc, window, met)?;
-    Ok(ProgramCommand::Import {
-        file,
-        files,
-        told,
-        times: is_set(met, "times"),
-        kernel_threads: is_set(met, "kernel-threads"),
-        cpus,
-        limit: most_of(met),
-    })
-}
-
-/// The files into which a recording is written.
-fn files_of(alloc: Global, met: &ArgMatches<'_>) -> Result<ImportFiles, AllocError>
-    ensures { IfOk result (AreFiles (rows_of (found_of met.now))) }
-{
-    let script = name_behind(alloc, met, "script")?;
-    let load = name_behind(alloc, met, "load")?;
-    let settings = name_behind(alloc, met, "settings")?;
-    let waits = name_behind(alloc, met, "waits")?;
-    Ok(ImportFiles {
-        script,
-        load,
-        settings,
-        waits,
-    })
-}
-
-/// What a load tells, in this window.
-fn told_of(
-    alloc: Global,
-    window: Option<Interval>,
-    met: &ArgMatches<'_>,
-) -> Result<ImportLoad, AllocError>
-    requires { IsSpelled (first_of (codes "window") (rows_of (found_of met.now))) window }
-    ensures { IfOk result (AreTold (rows_of (found_of met.now))) }
-{
-    let groups = name_behind(alloc, met, "group-by")?;
-    let levels = name_behind(alloc, met, "levels")?;
-    Ok(ImportLoad {
-        window,
-        all: is_set(met, "all"),
-        groups,
-        levels,
     })
 }
 
@@ -494,15 +390,17 @@ fn axis_of(matches: &ArgMatches<'_>) -> Axis
     }
 }
 
-/// The numbers that the word behind an option spells; none without a word.
+/// The numbers that the word behind an option of `draw` spells; none without a word.
 fn numbers_of(
     alloc: Global,
     matches: &ArgMatches<'_>,
     option: &'static str,
 ) -> Result<Option<Interval>, CommandFault>
+    requires { (option.now ≡ codes "cpus") ⊎ (option.now ≡ codes "lines") }
     ensures spelled { IfOk result
         (λ numbers. IsSpelled (first_of option.now (rows_of (found_of matches.now))) numbers) }
-    ensures wrong { IfErr result (AreNoNumbers option.now (rows_of (found_of matches.now))) }
+    ensures own { IfErr result (IsRefusal []) }
+    ensures wrong { IfErr result (IsWrongIn (Some (codes "draw", rows_of (found_of matches.now)))) }
 {
     let Some(word) = matches.get_str(option) else {
         return Ok(None);
@@ -538,13 +436,6 @@ fn limit_of(matches: &ArgMatches<'_>) -> Option<u32>
     matches.get_one::<u32>("limit")
 }
 
-/// How many events are read at most.
-fn most_of(matches: &ArgMatches<'_>) -> Option<u64>
-    ensures { IsMost (one_of (codes "limit") (rows_of (found_of matches.now))) result }
-{
-    matches.get_one::<u64>("limit")
-}
-
 /// What draws whose step is next in a run.
 fn seed_of(matches: &ArgMatches<'_>) -> Option<u64>
     ensures { IsSeed (one_of (codes "seed") (rows_of (found_of matches.now))) result }
@@ -577,16 +468,12 @@ fn policy_of(alloc: Global, matches: &ArgMatches<'_>) -> Result<PolicyName, Comm
     }
 }
 
-/// The name behind an option, of a file or of a variant, as it stands.
-fn name_behind(
-    alloc: Global,
-    matches: &ArgMatches<'_>,
-    option: &str,
-) -> Result<Option<String>, AllocError>
+/// The file into which a script of the run is written, or the variant whose script is; a name is taken as it stands.
+fn script_of(alloc: Global, matches: &ArgMatches<'_>) -> Result<Option<String>, AllocError>
     ensures { IfOk result
-        (λ name. option_map string_bytes name ≡ first_of option.now (rows_of (found_of matches.now))) }
+        (λ file. option_map string_bytes file ≡ first_of (codes "script") (rows_of (found_of matches.now))) }
 {
-    match matches.get_str(option) {
+    match matches.get_str("script") {
         None => Ok(None),
         Some(name) => Ok(Some(String::from_str(alloc, name)?)),
     }

@@ -27,15 +27,8 @@ const AS_A_NAME: &str = "tip: to pass ";
 const BAD_NUMBER: &str = "error: invalid value";
 
 /// The options that take numbers, as the parser tells them, and which ones.
-const NUMBERS: [(&str, &str); 4] = [
-    (
-        "'--limit <SECONDS>",
-        "whole seconds are wanted, 0 to 4294967295",
-    ),
-    (
-        "'--limit <NUMBER>",
-        "a number is wanted, 0 to 18446744073709551615",
-    ),
+const NUMBERS: [(&str, &str); 3] = [
+    ("'--limit ", "whole seconds are wanted, 0 to 4294967295"),
     ("'--seed ", "a number is wanted, 0 to 18446744073709551615"),
     ("'--runs ", "a number is wanted, 1 to 1000000000"),
 ];

@@ -27,9 +27,7 @@ mod seeds;
 mod talk;
 mod tally;
 
-pub use command_line::{
-    CommandFault, ImportFiles, ImportLoad, ProgramCommand, RunsFault, VariantsFrom, read_command,
-};
+pub use command_line::{CommandFault, ProgramCommand, RunsFault, VariantsFrom, read_command};
 pub use command_trouble::write_command_trouble;
 pub use ending::{BadSettings, Ending, Failure, Unsettled};
 pub use forms::{ScriptForm, make, make_flushed, replay_flushed, run_flushed, run_script};

@@ -26,6 +26,7 @@ mod machine;
 mod observer;
 mod outcome;
 mod output;
+mod piece;
 mod places;
 mod policy;
 mod response;

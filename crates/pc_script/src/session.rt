@@ -9,9 +9,6 @@ ghost use Rattle.std.specs.Io.Buffered.{writer_buffer, writer_contents};
 ghost use Rattle.std.specs.Io.KnownBytes.{Appends, Consumes, IsAtEnd};
 ghost use Rattle.std.specs.Str.Lines.{strip_carriage_return};
 ghost use Rattle.pc_calls.specs.declared.limits.Profile.{Profile};
-ghost use Rattle.pc_pieces.specs.Pieces.{bytes_of};
-ghost use Rattle.pc_pieces.specs.declared.piece.Filled.{Filled};
-ghost use Rattle.pc_pieces.specs.declared.piece.TheConstants.{ROOM};
 ghost use Rattle.pc_script.specs.Inner.Outputs.{waiting};
 ghost use Rattle.pc_script.specs.Inner.Pieces.{IsCut, IsPassed, IsUnbroken};
 ghost use Rattle.pc_script.specs.Inner.Talks.{CountsOut, Hears, HearsAll, HearsUntil, Lacks, LacksAtEnd, Leaves};
@@ -28,10 +25,10 @@ use crate::machine::Machine;
 use crate::observer::{Line, Observer};
 use crate::outcome::ScriptFault;
 use crate::output::Output;
+use crate::piece::Piece;
 use crate::places::Places;
 use crate::run::Replies;
 use crate::walker::Walker;
-use pc_pieces::{Filled, Piece};
 use std::alloc::Global;
 use std::io::{BufWriter, Read, Write};
 
@@ -345,25 +342,6 @@ fn settle<M: Machine, O: Observer<M, BufWriter<W>>, W: Write + Drop>(
     }
 }
 
-/// Reads once, and puts what was read behind a piece. Nothing may be held back while the read waits.
-#[inline(always)]
-fn read_more<M: Machine, R: Read, O: Observer<M, BufWriter<W>>, W: Write + Drop>(
-    piece: &mut Piece,
-    reader: &mut R,
-    observer: &O,
-    writer: &BufWriter<W>,
-) -> Filled
-    requires room { length (bytes_of piece.old) < ROOM }
-    requires observer { O.HoldsNothing observer.now }
-    requires writer { writer_buffer writer.now ≡ [] }
-    ensures read { (bytes : List ℕ) × Consumes (R.remaining reader.old) (R.remaining reader.new) bytes
-        × (bytes_of piece.new ≡ bytes_of piece.old ++ bytes) × (result ≢ Filled.More → bytes ≡ [])
-        × (result ≡ Filled.More → 0 < length bytes) }
-    ensures end { result ≡ Filled.AtEnd → IsAtEnd (R.remaining reader.new) }
-{
-    piece.fill(reader)
-}
-
 /// Answers the lines of a text one after another, each as soon as it is whole, until the reader comes to its end or a
 /// read fails: then what is left of the text is the last line.
 ///
@@ -405,7 +383,7 @@ pub fn converse<M: Machine, O: Observer<M, BufWriter<W>>, R: Read, W: Write + Dr
             Ok(()) => {}
             Err(fault) => return Err(fault),
         }
-        let filled = read_more::<M, R, O, W>(&mut piece, reader, observer, writer);
+        let filled = piece.fill::<M, R, O, W>(reader, observer, writer);
         if !filled.is_more() {
             match talk.take_last(piece.as_slice(), observer, helper, writer) {
                 Ok(()) => {}

@@ -1,13 +1,10 @@
 pub mod AllKnown
-pub mod Lists
 pub mod ListsOfKind
 pub mod Nearness
 pub mod Numerals
-pub mod Ranges
 pub mod Readings
 pub mod Stages
 pub mod StepTexts
 pub mod Tables
 pub mod Tellings
 pub mod UnknownKeys
-pub mod Wakers

@@ -95,24 +95,3 @@ map_on h g items k w ys y below is are one = map_more h g items k w ys y below a
 pub filter_on : {W X A : Type 0} (h : W → X) (g : X → Option A) (items : List W) (k : ℕ) (w : W) (ys : List A) (y : A) → k < length items → w ≡ get_or items k w
     → ys ≡ filter_map g (map h (take k items)) → g (h w) ≡ Some y → ys ++ y ∷ [] ≡ filter_map g (map h (take (k + 1) items))
 filter_on h g items k w ys y below is are one = filter_more h g items k w ys y below are (subst (λ v. g (h v) ≡ Some y) is one)
-
--- elements that are taken one by one, of which these were
-begun : {W X F : Type 0} (h : W → X) (faults : ℕ → X → List (Option F)) (before : List W) (w : W) (behind : List W) (k : ℕ) → k ≡ length before
-    → of_each faults 0 (map h (before ++ w ∷ behind)) ≡ of_each faults 0 (map h before) ++ (faults k (h w) ++ of_each faults (k + 1) (map h behind))
-begun h faults before w behind k at =
-    ap (of_each faults 0) (map-append h before (w ∷ behind))
-    ∙ of_each-append faults 0 k (map h before) (h w ∷ map h behind) (omega (arith, at, length-map before h))
-
-pub taken_turn : {W X F : Type 0} (h : W → X) (faults : ℕ → X → List (Option F)) (before : List W) (w : W) (k : ℕ) → k ≡ length before
-    → first_some (of_each faults 0 (map h before)) ≡ None → first_some (faults k (h w)) ≡ None → first_some (of_each faults 0 (map h (before ++ w ∷ []))) ≡ None
-taken_turn h faults before w k at none one =
-    ap first_some (begun h faults before w [] k at) ∙ through (of_each faults 0 (map h before)) (faults k (h w) ++ []) none
-    ∙ ap first_some (append-nil (faults k (h w))) ∙ one
-
-pub taken_stop : {W X F : Type 0} (h : W → X) (faults : ℕ → X → List (Option F)) (before : List W) (w : W) (behind all : List W) (k : ℕ) (f : F) → before ++ w ∷ behind ≡ all
-    → k ≡ length before → first_some (of_each faults 0 (map h before)) ≡ None → first_some (faults k (h w)) ≡ Some f → first_some (of_each faults 0 (map h all)) ≡ Some f
-taken_stop h faults before w behind all k f split at none one =
-    ap (λ xs. first_some (of_each faults 0 (map h xs))) (sym split)
-    ∙ ap first_some (begun h faults before w behind k at)
-    ∙ through (of_each faults 0 (map h before)) (faults k (h w) ++ of_each faults (k + 1) (map h behind)) none
-    ∙ told_first (faults k (h w)) (of_each faults (k + 1) (map h behind)) f one

@@ -9,10 +9,7 @@ use Rattle.pc_settings.specs.Keys.{first_some, integer_at, integer_or, of_each, 
 use Rattle.pc_settings.specs.declared.field.Field.TheVariants as field
 use Rattle.pc_settings.specs.declared.loads.LoadTextFault.{LoadTextFault}
 use Rattle.pc_settings.specs.declared.loads.LoadTextFault.TheVariants.{BadField, BadVariants, UnknownKey}
-use Rattle.pc_settings.specs.LoadTexts.{AreAsked, Finds, IsFault, IsRead, PlanTold, RecordedTold, Told, asked_faults, choice_faults, choice_told, choices_faults, choices_in, demand_in, load_faults, need_told, plan_faults, plan_in, recorded_faults, recorded_in, step_faults, thread_faults, threads_faults, threads_in, told_in, unknown_faults, variants_faults}
-use Rattle.pc_settings.specs.Inner.Drafts.{plan_told, recorded_told}
-use Rattle.pc_settings.specs.declared.loads.draft.PlanKeys.{PlanKeys}
-use Rattle.pc_settings.specs.declared.loads.draft.RecordedKeys.{RecordedKeys}
+use Rattle.pc_settings.specs.LoadTexts.{AreAsked, Finds, IsFault, IsRead, Told, asked_faults, choice_faults, choice_told, choices_faults, choices_in, demand_in, load_faults, need_told, step_faults, thread_faults, threads_faults, threads_in, told_in, unknown_faults, variants_faults}
 use Rattle.pc_settings.specs.UnknownKeys.{AreAllKnown, unknown_keys}
 use Rattle.pc_settings.specs.declared.unknown.UnknownKey as unknown
 use Rattle.pc_settings.proofs.AllKnown.{all_known, none_first}
@@ -56,26 +53,6 @@ keys_pass table cpus until h =
 moved : (faults others : List (Option LoadTextFault)) (fault : LoadTextFault) → (first_some faults ≡ Some fault → first_some others ≡ Some fault) → IsFault faults fault → IsFault others fault
 moved faults others fault step (inl h) = inl (step h)
 moved faults others fault step (inr h) = inr h
-
--- the two parts of a thread's keys
-pub plan_stops : (thread : Members) (fault : LoadTextFault) → IsFault (plan_faults thread) fault → IsFault (thread_faults thread) fault
-plan_stops thread fault told =
-    moved (plan_faults thread) (thread_faults thread) fault (λ e. told_first (plan_faults thread) (recorded_faults thread) fault e) told
-
-pub recorded_stops : (thread : Members) (fault : LoadTextFault) → first_some (plan_faults thread) ≡ None → IsFault (recorded_faults thread) fault → IsFault (thread_faults thread) fault
-recorded_stops thread fault plan told =
-    moved (recorded_faults thread) (thread_faults thread) fault (λ e. through (plan_faults thread) (recorded_faults thread) plan ∙ e) told
-
-abbrev both_told : PlanTold → RecordedTold → Told
-both_told plan recorded = record { plan = plan; recorded = recorded }
-
-pub thread_read : (thread : Members) (plan : PlanKeys) (recorded : RecordedKeys) → (first_some (plan_faults thread) ≡ None) × (plan_told plan ≡ plan_in thread)
-    → (first_some (recorded_faults thread) ≡ None) × (recorded_told recorded ≡ recorded_in thread)
-    → (first_some (thread_faults thread) ≡ None) × (both_told (plan_told plan) (recorded_told recorded) ≡ told_in thread)
-thread_read thread plan recorded h g = (
-  through (plan_faults thread) (recorded_faults thread) h.0 ∙ g.0,
-  ap (λ p. both_told p (recorded_told recorded)) h.1 ∙ ap (both_told (plan_in thread)) g.1,
-)
 
 pub threads_told : (table : Members) (cpus until : ℤ) (fault : LoadTextFault) → Keyed table cpus until → IsFault (threads_faults table) fault → IsFault (load_faults table) fault
 threads_told table cpus until fault h told =

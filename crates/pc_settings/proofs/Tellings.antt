@@ -12,7 +12,7 @@ use Rattle.pc_settings.specs.Steps.{read_run_step}
 use Rattle.pc_settings.specs.Keys.{integer_at, tables_at, unless}
 use Rattle.pc_settings.specs.SettingsText.{integer_in, threads_in, restarts_in, texts_in, plan_in, restart_in, settings_in, thread_faults, restart_faults, text_faults, step_faults, faults_in, Reads}
 use Rattle.pc_settings.specs.Inner.Readings.{Read, and_then, each, read_unless, draft_in, read_draft, read_restart, read_text, read_plan, checked, checked_by, read_table, Follows}
-use Rattle.pc_settings.specs.Inner.RunKeys.{Told}
+use Rattle.pc_settings.specs.Inner.SharedKeys.{Told}
 use Rattle.pc_settings.specs.declared.field.Field.TheVariants as field
 use Rattle.pc_settings.specs.declared.runs.SettingsFault.{SettingsFault}
 use Rattle.pc_settings.specs.declared.runs.SettingsFault.TheVariants.{BadField, BadStep, BadConfig}

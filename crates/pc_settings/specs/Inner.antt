@@ -1,4 +1,4 @@
 pub mod Drafts
 pub mod Readings
-pub mod RunKeys
+pub mod SharedKeys
 pub mod Values

@@ -10,9 +10,7 @@ use Rattle.pc_settings.specs.declared.known.TableKind.TheVariants.{Top, Thread, 
 -- the keys that such a table may have, in the order in which they are documented
 abbrev pub fields_of : TableKind → List Field
 fields_of Top = field.Cpus ∷ field.Threads ∷ field.Restarts ∷ field.Until ∷ field.Variants ∷ []
-fields_of Thread =
-    field.Queue ∷ field.Mask ∷ field.Steps ∷ field.Start ∷ field.Level ∷ field.Sleeps ∷ field.ThreadName ∷ field.Pid
-    ∷ field.ThreadGroup ∷ field.Wakers ∷ []
+fields_of Thread = field.Queue ∷ field.Mask ∷ field.Steps ∷ field.Start ∷ field.Level ∷ field.Sleeps ∷ []
 fields_of Restart = field.Cpu ∷ field.Turn ∷ []
 fields_of Variant =
     field.Name ∷ field.Order ∷ field.Steals ∷ field.Quantum ∷ field.Group ∷ field.Delay ∷ field.Cost ∷ field.Urgent

@@ -1,5 +1,4 @@
 -- What the TOML texts of the program spell, and what is wrong with a text.
-pub mod CpuTexts
 pub mod Fields
 pub mod Inner
 pub mod Keys
@@ -10,5 +9,4 @@ pub mod SettingsText
 pub mod Steps
 pub mod UnknownKeys
 pub mod UnknownWords
-pub mod Wakings
 pub mod Words

@@ -6,13 +6,10 @@ use Rattle.pc_load.specs.Loads.{Need, Demand, demand, end_of, fault_of}
 use Rattle.pc_load.specs.Variants.{Choice, or_plain, plain, plain_order, variant_fault}
 use Rattle.pc_policy.specs.Names.{order_of}
 use Rattle.pc_load.specs.declared.load.Load.{Load}
-use Rattle.pc_load.specs.declared.load.Waker.{Waker}
 use Rattle.pc_load.specs.declared.variant.Variants.{Variants}
 use Rattle.pc_settings.specs.Keys.{first_some, of_each, unless, integer_at, integer_or, integers_at, switch_or}
 use Rattle.pc_settings.specs.Keys.{tables_at, text_at, text_or, texts_at}
 use Rattle.pc_settings.specs.Steps.{read_step}
-use Rattle.pc_settings.specs.CpuTexts.{mask_at}
-use Rattle.pc_settings.specs.Wakings.{wakers_at}
 use Rattle.pc_settings.specs.declared.field.Field.TheVariants as field
 use Rattle.pc_settings.specs.declared.loads.LoadTextFault.{LoadTextFault}
 use Rattle.pc_settings.specs.declared.loads.LoadTextFault.TheVariants.{NotToml, BadField, BadStep, BadLoad, BadVariants}
@@ -21,8 +18,8 @@ use Rattle.pc_settings.specs.UnknownKeys.{unknown_keys}
 
 -- What the keys of a text tell; what is said of a key that tells nothing plays no part, since it is a fault.
 
--- what the keys tell of what a thread does; its steps are texts
-pub record PlanTold : Type 0 where
+-- what the keys of a thread tell; its steps are texts
+pub record Told : Type 0 where
   pub queue : ℤ
   pub mask : ℤ
   pub texts : List (List ℕ)
@@ -30,59 +27,26 @@ pub record PlanTold : Type 0 where
   pub level : ℤ
   pub sleeps : List ℤ
 
--- what the keys tell of what was recorded of a thread
-pub record RecordedTold : Type 0 where
-  pub name : List ℕ
-  pub pid : ℤ
-  pub group : List ℕ
-  pub wakers : List (List Waker)
-
--- what the keys of a thread tell
-pub record Told : Type 0 where
-  pub plan : PlanTold
-  pub recorded : RecordedTold
-
--- what the table of a thread tells of what it does
-abbrev pub plan_in : Members → PlanTold
-plan_in thread = record {
+-- what the table of a thread tells
+abbrev pub told_in : Members → Told
+told_in thread = record {
   queue = unwrap_or (integer_at (codes "queue") thread) (pos 0);
-  mask = unwrap_or (mask_at (codes "mask") thread) (pos 0);
+  mask = unwrap_or (integer_at (codes "mask") thread) (pos 0);
   texts = unwrap_or (texts_at (codes "steps") thread) [];
   start = unwrap_or (integer_or (pos 0) (codes "start") thread) (pos 0);
   level = unwrap_or (integer_or (pos 0) (codes "level") thread) (pos 0);
   sleeps = unwrap_or (integers_at (codes "sleeps") thread) [];
 }
 
--- what a thread is called; nothing where none is told
-abbrev pub name_in : Members → List ℕ
-name_in thread = unwrap_or (text_or [] (codes "name") thread) []
-
--- what the table tells of what was recorded of the thread, whose group is its name where none is told
-abbrev pub recorded_in : Members → RecordedTold
-recorded_in thread = record {
-  name = name_in thread;
-  pid = unwrap_or (integer_or (pos 0) (codes "pid") thread) (pos 0);
-  group = unwrap_or (text_or (name_in thread) (codes "group") thread) [];
-  wakers = unwrap_or (wakers_at (codes "wakers") thread) [];
-}
-
--- what the table of a thread tells
-abbrev pub told_in : Members → Told
-told_in thread = record { plan = plan_in thread; recorded = recorded_in thread }
-
 -- what the thread needs, whose steps are those that its texts are
 abbrev pub need_told : Told → Need
 need_told told = record {
-  queue = told.plan.queue;
-  mask = told.plan.mask;
-  steps = filter_map read_step told.plan.texts;
-  start = told.plan.start;
-  level = told.plan.level;
-  sleeps = told.plan.sleeps;
-  name = told.recorded.name;
-  pid = told.recorded.pid;
-  group = told.recorded.group;
-  wakers = told.recorded.wakers;
+  queue = told.queue;
+  mask = told.mask;
+  steps = filter_map read_step told.texts;
+  start = told.start;
+  level = told.level;
+  sleeps = told.sleeps;
 }
 
 -- what the table of a variant tells, where an absent key has the value of the plain one
@@ -120,29 +84,16 @@ choices_in table = map choice_told (variants_in table)
 
 -- The faults of a text, in the order in which they are told.
 
--- the keys of what a thread does that are absent or of another type
-abbrev pub plan_faults : Members → List (Option LoadTextFault)
-plan_faults thread =
+-- the keys of a thread that are absent or of another type
+abbrev pub thread_faults : Members → List (Option LoadTextFault)
+thread_faults thread =
     unless (integer_at (codes "queue") thread) (BadField field.Queue)
-    ∷ unless (mask_at (codes "mask") thread) (BadField field.Mask)
+    ∷ unless (integer_at (codes "mask") thread) (BadField field.Mask)
     ∷ unless (texts_at (codes "steps") thread) (BadField field.Steps)
     ∷ unless (integer_or (pos 0) (codes "start") thread) (BadField field.Start)
     ∷ unless (integer_or (pos 0) (codes "level") thread) (BadField field.Level)
     ∷ unless (integers_at (codes "sleeps") thread) (BadField field.Sleeps)
     ∷ []
-
--- the keys of what was recorded of a thread that are of another type
-abbrev pub recorded_faults : Members → List (Option LoadTextFault)
-recorded_faults thread =
-    unless (text_or [] (codes "name") thread) (BadField field.ThreadName)
-    ∷ unless (integer_or (pos 0) (codes "pid") thread) (BadField field.Pid)
-    ∷ unless (text_or (name_in thread) (codes "group") thread) (BadField field.ThreadGroup)
-    ∷ unless (wakers_at (codes "wakers") thread) (BadField field.Wakers)
-    ∷ []
-
--- the keys of a thread that are absent or of another type
-abbrev pub thread_faults : Members → List (Option LoadTextFault)
-thread_faults thread = plan_faults thread ++ recorded_faults thread
 
 -- the keys of a variant that are absent or of another type
 abbrev pub choice_faults : Members → List (Option LoadTextFault)
@@ -164,7 +115,7 @@ text_fault thread step text = unless (read_step text) (BadStep thread step) ∷ 
 
 -- the texts of a thread that are no step
 abbrev pub step_faults : ℕ → Told → List (Option LoadTextFault)
-step_faults thread told = of_each (text_fault thread) 0 told.plan.texts
+step_faults thread told = of_each (text_fault thread) 0 told.texts
 
 -- the keys of a text's variants, and the key of their list
 abbrev pub variants_faults : Members → List (Option LoadTextFault)

@@ -23,14 +23,6 @@ pub enum Field {
     Level,
     /// For how many ticks a thread is blocked.
     Sleeps,
-    /// What a thread is called.
-    ThreadName,
-    /// A thread's number on the machine that was recorded.
-    Pid,
-    /// The group by which a thread is told.
-    ThreadGroup,
-    /// Who may wake a thread.
-    Wakers,
     /// The list of restarts.
     Restarts,
     /// The CPU whose agent restarts.
@@ -77,10 +69,6 @@ impl Field {
             Field::Start => "start",
             Field::Level => "level",
             Field::Sleeps => "sleeps",
-            Field::ThreadName => "name",
-            Field::Pid => "pid",
-            Field::ThreadGroup => "group",
-            Field::Wakers => "wakers",
             Field::Restarts => "restart",
             Field::Cpu => "cpu",
             Field::Turn => "turn",
@@ -115,10 +103,6 @@ impl Display for Field {
             Field::Start => "thread.start",
             Field::Level => "thread.level",
             Field::Sleeps => "thread.sleeps",
-            Field::ThreadName => "thread.name",
-            Field::Pid => "thread.pid",
-            Field::ThreadGroup => "thread.group",
-            Field::Wakers => "thread.wakers",
             Field::Restarts => "restart",
             Field::Cpu => "restart.cpu",
             Field::Turn => "restart.turn",

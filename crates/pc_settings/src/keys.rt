@@ -3,14 +3,12 @@
 ghost use Rattle.std.specs.Prelude.{◌≡◌, ℤ, Some, None, MatchOption, true, map, option_map, unwrap_or};
 ghost use Rattle.toml.specs.Data.{as_array, as_integer, as_str, as_table, get_member, no_items};
 ghost use Rattle.toml.specs.View.{table_view, view};
-ghost use Rattle.pc_settings.specs.CpuTexts.{as_mask, mask_at};
 ghost use Rattle.pc_settings.specs.Fields.{key_of};
 ghost use Rattle.pc_settings.specs.Keys.{elements, integer_at, integer_or, integers_at, list_of, switch_or};
 ghost use Rattle.pc_settings.specs.Keys.{tables_at, text_at, text_or, texts_at};
 ghost use Rattle.pc_settings.specs.UnknownKeys.{listed};
 ghost use Rattle.pc_settings.specs.Inner.Values.{are_integers, are_tables, are_texts, integer_in, table_in, text_in};
 
-use crate::cpu_texts::mask_of;
 use crate::field::Field;
 use toml::{Table, Value};
 
@@ -41,27 +39,6 @@ pub(crate) fn integer_or(absent: i64, table: &Table, field: Field) -> Option<i64
     }
 }
 
-/// The mask that a value is: an integer, or a text of CPUs.
-fn mask_in(value: &Value) -> Option<i128>
-    ensures { result ≡ as_mask (view value.now) }
-{
-    if let Some(number) = value.as_integer() {
-        return Some(number as i128);
-    }
-    let bits = mask_of(value.as_str()?)?;
-    Some(bits as i128)
-}
-
-/// The mask at a key.
-pub(crate) fn mask_at(table: &Table, field: Field) -> Option<i128>
-    ensures { result ≡ mask_at (key_of field) (table_view table.now) }
-{
-    match value_at(table, field) {
-        Some(value) => mask_in(value),
-        None => None,
-    }
-}
-
 /// Whether the setting at a key is on, or this where it is absent.
 pub(crate) fn switch_or(absent: bool, table: &Table, field: Field) -> Option<bool>
     ensures { result ≡ switch_or absent (key_of field) (table_view table.now) }
@@ -83,7 +60,7 @@ pub(crate) fn text_at<'a>(table: &'a Table, field: Field) -> Option<&'a str>
 }
 
 /// The text at a key, or this where it is absent.
-pub(crate) fn text_or<'a>(absent: &'a str, table: &'a Table, field: Field) -> Option<&'a str>
+pub(crate) fn text_or<'a>(absent: &'static str, table: &'a Table, field: Field) -> Option<&'a str>
     ensures { option_map (λ text. text.now) result ≡ text_or absent.now (key_of field) (table_view table.now) }
 {
     match value_at(table, field) {

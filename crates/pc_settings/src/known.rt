@@ -38,10 +38,6 @@ impl TableKind {
                 Field::Start,
                 Field::Level,
                 Field::Sleeps,
-                Field::ThreadName,
-                Field::Pid,
-                Field::ThreadGroup,
-                Field::Wakers,
             ],
             TableKind::Restart => &[Field::Cpu, Field::Turn],
             TableKind::Variant => &[

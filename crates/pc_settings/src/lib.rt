@@ -1,7 +1,6 @@
 //! Settings of runs, and loads and variants of the lab, as TOML texts.
 #![tactic(auto)]
 
-mod cpu_texts;
 mod field;
 mod input;
 mod keys;
@@ -13,7 +12,6 @@ mod shared_keys;
 mod steps;
 mod trouble;
 mod unknown;
-mod wakings;
 
 pub use field::Field;
 pub use input::{TextFault, Unread, read_utf8};

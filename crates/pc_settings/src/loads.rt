@@ -135,7 +135,7 @@ fn load_of(alloc: Global, table: &Table) -> Result<(Load, Variants), LoadTextFau
     };
     let threads = threads_in(alloc, table)?;
     let choices = choices_in(alloc, table)?;
-    let plans = plans_of(alloc, threads)?;
+    let plans = plans_of(alloc, threads.as_slice())?;
     load_asked(alloc, cpus, until, plans, choices.as_slice())
 }
 

@@ -7,22 +7,20 @@ ghost use Rattle.pc_threads.specs.Settings.{plan_of};
 ghost use Rattle.pc_settings.specs.SettingsText.{Reads};
 ghost use Rattle.pc_settings.specs.Inner.Readings.{Follows, each, read_draft, read_plan};
 ghost use Rattle.pc_settings.specs.Inner.Readings.{read_restart, read_table, read_text};
-ghost use Rattle.pc_settings.specs.Inner.RunKeys.{told};
+ghost use Rattle.pc_settings.specs.Inner.SharedKeys.{told};
 ghost use Rattle.pc_settings.specs.Inner.Values.{are_tables, are_texts, table_in, text_in};
 
 mod tables;
-mod thread_keys;
 mod trouble;
 
 use crate::field::Field;
 use crate::keys::tables_at;
-use crate::shared_keys::{cpus_of, threads_of};
+use crate::shared_keys::{ThreadKeys, cpus_of, threads_of};
 use crate::steps::run_step_in;
 use pc_threads::{Config, ConfigFault, Restart, Step, ThreadPlan};
 use std::alloc::{AllocError, Global};
 use tables::{draft_of, restart_of};
 use thiserror::Error;
-use thread_keys::ThreadKeys;
 use toml::{Table, Value};
 pub use trouble::write_trouble;
 

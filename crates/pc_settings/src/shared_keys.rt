@@ -3,11 +3,11 @@
 ghost use Rattle.std.specs.Prelude.{◌≡◌, true, Some, None, map, codes, MatchResult};
 ghost use Rattle.toml.specs.View.{table_view};
 ghost use Rattle.pc_settings.specs.Keys.{integer_at, tables_at};
-ghost use Rattle.pc_settings.specs.Inner.Values.{are_tables, table_in};
+ghost use Rattle.pc_settings.specs.Inner.Values.{are_tables, are_texts, table_in};
 ghost use Rattle.pc_settings.specs.declared.field.Field.TheVariants.{Cpus, Threads};
 
 use crate::field::Field;
-use crate::keys::{integer_at, tables_at};
+use crate::keys::{integer_at, tables_at, texts_at};
 use toml::{Table, Value};
 
 /// How many CPUs a table tells of.
@@ -31,5 +31,35 @@ pub(crate) fn threads_of(table: &Table) -> Result<&[Value], Field>
     match tables_at(table, Field::Threads) {
         Some(threads) => Ok(threads),
         None => Err(Field::Threads),
+    }
+}
+
+/// A thread as these keys tell it; its steps are texts.
+#[derive(Drop)]
+pub(crate) struct ThreadKeys<'a> {
+    pub(crate) queue: i64,
+    pub(crate) mask: i64,
+    pub(crate) texts: &'a [Value],
+    ghost texts_only: { are_texts texts.now ≡ true },
+}
+
+impl<'a> ThreadKeys<'a> {
+    ghost use Rattle.toml.specs.View.{table_view};
+    ghost use Rattle.pc_settings.specs.Inner.SharedKeys.{AreKeysOf};
+
+    /// What the table of a thread tells.
+    pub(crate) fn of(table: &'a Table) -> Result<ThreadKeys<'a>, Field>
+        ensures { AreKeysOf (table_view table.now) result }
+    {
+        let Some(queue) = integer_at(table, Field::Queue) else {
+            return Err(Field::Queue);
+        };
+        let Some(mask) = integer_at(table, Field::Mask) else {
+            return Err(Field::Mask);
+        };
+        let Some(texts) = texts_at(table, Field::Steps) else {
+            return Err(Field::Steps);
+        };
+        Ok(ThreadKeys { queue, mask, texts })
     }
 }

@@ -5,20 +5,13 @@ ghost use Rattle.toml.specs.Data.{as_str};
 ghost use Rattle.toml.specs.View.{view};
 ghost use Rattle.pc_settings.specs.Inner.Values.{text_in};
 ghost use Rattle.pc_settings.specs.Steps.{RunStepsAreReadAsWritten, StepsAreReadAsWritten};
-ghost use Rattle.pc_settings.specs.Steps.{read_number, read_run_step, read_step, run_leaving};
+ghost use Rattle.pc_settings.specs.Steps.{read_run_step, read_step, run_leaving};
 
 use pc_calls::Leaving;
 use pc_load::LoadStep;
 use pc_script::count;
 use pc_threads::Step as RunStep;
 use toml::Value;
-
-/// The number that a text is, in decimal, where it is below 2 ^ 32.
-pub(crate) fn number_in(text: &str) -> Option<u32>
-    ensures { result ≡ read_number text.now }
-{
-    count(text.as_bytes())
-}
 
 /// The step that a text is.
 pub(crate) fn step_of(text: &str) -> Option<LoadStep>

@@ -1,12 +1,11 @@
 //! What is wrong at a key of a text, in words: where, what stands there, and what was wanted.
 
 use crate::field::Field;
-use crate::keys::{integer_at, items_at, mask_at, text_at, value_at};
+use crate::keys::{integer_at, items_at, value_at};
 use crate::steps::step_of;
 use pc_calls::{Leaving, MOST_CPUS, MOST_THREADS};
 use pc_load::{count_of_cpus, is_cpu, is_mask};
 use pc_pen::QuotedWord;
-use std::fmt::{self, Display, Formatter};
 use std::io::{self, Write};
 use toml::{Table, Value};
 
@@ -26,10 +25,9 @@ impl Wanted {
     fn at(field: Field) -> Wanted {
         match field {
             Field::Threads | Field::Restarts | Field::Variants => Wanted::Tables,
-            Field::Steps | Field::Wakers => Wanted::Texts,
+            Field::Steps => Wanted::Texts,
             Field::Sleeps => Wanted::Integers,
-            Field::ThreadName | Field::ThreadGroup | Field::Name | Field::Order | Field::Steals =>
-                Wanted::Text,
+            Field::Name | Field::Order | Field::Steals => Wanted::Text,
             Field::Urgent | Field::Keep => Wanted::Switch,
             Field::Cpus
             | Field::Until
@@ -37,7 +35,6 @@ impl Wanted {
             | Field::Mask
             | Field::Start
             | Field::Level
-            | Field::Pid
             | Field::Cpu
             | Field::Turn
             | Field::Quantum
@@ -79,7 +76,7 @@ impl Wanted {
 }
 
 /// What a value is, in words.
-pub(crate) fn in_words(value: &Value) -> &'static str {
+fn in_words(value: &Value) -> &'static str {
     match value {
         Value::String(_) => "a text",
         Value::Integer(_) => "an integer",
@@ -104,35 +101,6 @@ fn may_be_absent(field: Field) -> bool {
             | Field::Turn
             | Field::Name
     )
-}
-
-/// The mask of a thread as it is written: a number, or a text.
-#[derive(Clone, Copy)]
-pub(crate) enum MaskWords<'a> {
-    Number(i64),
-    Text(&'a str),
-}
-
-impl<'a> MaskWords<'a> {
-    /// That of this thread.
-    pub(crate) fn at(thread: &'a Table) -> MaskWords<'a> {
-        match text_at(thread, Field::Mask) {
-            Some(text) => MaskWords::Text(text),
-            None => MaskWords::Number(integer_at(thread, Field::Mask).unwrap_or(0)),
-        }
-    }
-}
-
-impl Display for MaskWords<'_> {
-    fn fmt<W: fmt::Write>(&self, f: &mut Formatter<W>) -> fmt::Result {
-        match self {
-            MaskWords::Number(number) => write!(f, "{number}"),
-            MaskWords::Text(text) => {
-                let quoted = QuotedWord(text.as_bytes());
-                write!(f, "\"{quoted}\"")
-            }
-        }
-    }
 }
 
 /// Where a text ceases to be TOML, and why.
@@ -176,7 +144,7 @@ pub(crate) fn table_at<'a>(table: &'a Table, list: Field, place: usize) -> Optio
 }
 
 /// What stands at a key.
-pub(crate) fn found_at(table: &Table, field: Field) -> &'static str {
+fn found_at(table: &Table, field: Field) -> &'static str {
     match value_at(table, field) {
         Some(value) => in_words(value),
         None => "nothing",
@@ -184,7 +152,7 @@ pub(crate) fn found_at(table: &Table, field: Field) -> &'static str {
 }
 
 /// Whether what has to stand at a key does.
-pub(crate) fn has(table: &Table, field: Field) -> bool {
+fn has(table: &Table, field: Field) -> bool {
     match value_at(table, field) {
         Some(value) => Wanted::at(field).is_met_by(value),
         None => may_be_absent(field),
@@ -198,14 +166,9 @@ pub(crate) fn write_field<W: Write>(table: &Table, field: Field, writer: &mut W)
         Field::Threads | Field::Restarts | Field::Variants => write_list(table, field, writer),
         Field::Steps => write_items(table, field, "step", writer),
         Field::Sleeps => write_items(table, field, "sleep", writer),
-        Field::Wakers => write_items(table, field, "waker", writer),
-        Field::Queue
-        | Field::Mask
-        | Field::Start
-        | Field::Level
-        | Field::ThreadName
-        | Field::Pid
-        | Field::ThreadGroup => write_key(table, Field::Threads, field, writer),
+        Field::Queue | Field::Mask | Field::Start | Field::Level => {
+            write_key(table, Field::Threads, field, writer)
+        }
         Field::Cpu | Field::Turn => write_key(table, Field::Restarts, field, writer),
         Field::Name
         | Field::Order
@@ -353,24 +316,23 @@ pub(crate) fn write_thread<W: Write>(
             "thread {place}: queue {queue}: there are CPUs 0 to {last}"
         );
     }
-    if !is_mask(cpus, mask_at(thread, Field::Mask).unwrap_or(0)) {
-        return write_mask(thread, place, cpus, writer);
+    let mask = integer_at(thread, Field::Mask).unwrap_or(0);
+    if !is_mask(cpus, mask) {
+        return write_mask(place, mask, cpus, writer);
     }
     write_life(place, items_at(thread, Field::Steps), most_steps, writer)
 }
 
 /// What is wrong with a mask of a thread, where there are so many CPUs.
-fn write_mask<W: Write>(thread: &Table, place: usize, cpus: u8, writer: &mut W) -> io::Result<()> {
-    let last = cpus.saturating_sub(1);
-    let mask = MaskWords::at(thread);
-    write!(writer, "thread {place}: mask {mask}: ")?;
-    if let MaskWords::Text(_) = mask {
-        return writeln!(writer, "there are CPUs 0 to {last}");
-    }
-    write!(writer, "the sum of its CPUs is wanted, ")?;
+fn write_mask<W: Write>(place: usize, mask: i64, cpus: u8, writer: &mut W) -> io::Result<()> {
+    write!(
+        writer,
+        "thread {place}: mask {mask}: the sum of its CPUs is wanted, "
+    )?;
     writeln!(
         writer,
-        "of which CPU 0 is 1 and each next one twice the one before; the last one is CPU {last}"
+        "of which CPU 0 is 1 and each next one twice the one before; the last one is CPU {}",
+        cpus.saturating_sub(1)
     )
 }
 

@@ -1,11 +1,8 @@
 //! `pc-sim`: replays scripts of events on the kernel model and its agents, explains or draws them, answers commands as
-//! they come, runs agents in threads or by seeds, tries loads of the lab, or turns recordings into texts of these. What
-//! it does is the libraries', `pc_program`, `pc_trial` and `pc_import`; here are the words, files and streams of the
-//! machine that it runs on.
+//! they come, runs agents in threads or by seeds, or tries loads of the lab. What it does is the libraries',
+//! `pc_program` and `pc_trial`; here are the words, files and streams of the machine that it runs on.
 #![tactic(auto)]
 
-mod files;
-mod import;
 mod lab;
 mod met;
 mod quitting;
@@ -14,7 +11,6 @@ mod streams;
 mod tally;
 mod words;
 
-use import::{ImportOptions, import_on_machine};
 use lab::try_on_machine;
 use met::{Met, Source, say_failure, say_missing};
 use pc_program::{
@@ -262,12 +258,11 @@ fn do_command<R: Threads + Wait + Clock + Sync>(
             file,
             variants,
             per_cpu,
-            by_group,
             csv,
             picture,
             script,
         } => {
-            let wanted = LabOutput::of(per_cpu, by_group, csv, picture, script);
+            let wanted = LabOutput::of(per_cpu, csv, picture, script);
             try_on_machine(rt, file, variants, &wanted)
         }
         ProgramCommand::Run {
@@ -288,23 +283,6 @@ fn do_command<R: Threads + Wait + Clock + Sync>(
             policy,
             seeds,
         } => tally_on_machine(rt, file, limit, &AgentPolicy::named(policy), seeds),
-        ProgramCommand::Import {
-            file,
-            files,
-            told,
-            times,
-            kernel_threads,
-            cpus,
-            limit,
-        } => {
-            let options = ImportOptions {
-                times,
-                kernel_threads,
-                cpus,
-                limit,
-            };
-            import_on_machine(rt, file, &files, &options, &told)
-        }
     }
 }
 

@@ -2,7 +2,6 @@
 //! calls.
 
 use crate::end;
-use crate::files::are_one;
 use crate::met::{Met, Source};
 use crate::streams::{Noted, screen_of};
 use pc_program::{
@@ -11,8 +10,9 @@ use pc_program::{
 };
 use pc_settings::write_unknown_keys;
 use std::alloc::Global;
-use std::fs::File;
+use std::fs::{self, File};
 use std::io::{self, BufWriter, Read, Stderr, Write};
+use std::os::unix::fs::MetadataExt;
 use std::process::ExitCode;
 use std::sync::Wait;
 use std::thread::Threads;
@@ -68,6 +68,16 @@ fn run_settings<R: Threads + Wait + Clock + Sync, S: Write + Copy + Sync, W: Wri
 struct ScriptFile {
     name: String,
     file: File,
+}
+
+/// Whether both name one file on a disk.
+fn are_one(rt: &HostRuntime, one: &str, other: &str) -> bool {
+    match (fs::metadata(rt, one), fs::metadata(rt, other)) {
+        (Ok(one), Ok(other)) => {
+            one.is_file() && one.dev() == other.dev() && one.ino() == other.ino()
+        }
+        (_, _) => false,
+    }
 }
 
 /// The file of this name, made or emptied, where there is a name. One that the settings were read from stays.

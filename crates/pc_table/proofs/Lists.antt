@@ -100,18 +100,3 @@ sum_same (Some level) [] [] perm = refl
 sum_same (Some level) (y ∷ ys) [] perm = absurd (omega (arith, length_permutation (y ∷ ys) [] perm))
 sum_same (Some level) [] (x ∷ xs) perm = absurd (omega (arith, length_permutation [] (x ∷ xs) perm))
 sum_same (Some level) (y ∷ ys) (x ∷ xs) perm = ap (λ n. Some (decimal n)) (sum_by-IsPermutation (λ x. x) (y ∷ ys) (x ∷ xs) perm)
-
--- what is made of what is made of each number, where that is the same for each
-pub over_same : {X Y : Type 0} (g : Y → X) (f h : ℕ → List Y) (n : ℕ) → ((i : ℕ) → i < n → h i ≡ f i)
-    → flat_map (λ i. map g (h i)) (range_with_len 0 n) ≡ map g (flat_map f (range_with_len 0 n))
-over_same g f h zero same = refl
-over_same g f h (suc n) same =
-    let next : suc n ≡ n + 1 = omega arith in
-    let before = over_same g f h n (λ i low. same i (omega (arith, low))) in
-    ap (λ m. flat_map (λ i. map g (h i)) (range_with_len 0 m)) next
-    ∙ over_more (λ i. map g (h i)) n
-    ∙ ap (λ those. those ++ map g (h n)) before
-    ∙ ap (λ last. map g (flat_map f (range_with_len 0 n)) ++ map g last) (same n (omega arith))
-    ∙ sym (map-append g (flat_map f (range_with_len 0 n)) (f n))
-    ∙ ap (map g) (sym (over_more f n))
-    ∙ ap (λ m. map g (flat_map f (range_with_len 0 m))) (sym next)

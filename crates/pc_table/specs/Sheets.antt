@@ -1,11 +1,10 @@
 -- How the rows are written.
-use Rattle.std.specs.Prelude.{ℕ, ◌-◌, ◌==◌, Bool, ◌||◌, max, if◌then◌else◌, List, [], ◌∷◌, ◌++◌, length, map, flat_map}
-use Rattle.std.specs.Prelude.{Option, Some}
+use Rattle.std.specs.Prelude.{ℕ, ◌-◌, ◌==◌, max, if◌then◌else◌, List, [], ◌∷◌, ◌++◌, length, map, flat_map, Option}
+use Rattle.std.specs.Prelude.{Some}
 use Rattle.std.specs.Prelude.{None, codes, decimal, replicate, slice_index_or}
 use Rattle.std.specs.List.{join_with_byte, range_with_len}
 use Rattle.std.specs.Option.{option_map}
 use Rattle.pc_load.specs.Loads.{Demand}
-use Rattle.pc_table.specs.Groups.{groups_in, names_of_group, places_in, values_by_group}
 use Rattle.pc_table.specs.Percentiles.{percentile}
 use Rattle.pc_table.specs.Rows.{rows_of}
 use Rattle.pc_table.specs.Values.{names_in, values_in}
@@ -17,13 +16,9 @@ use Rattle.pc_table.specs.declared.rows.Percents.{Percents}
 use Rattle.pc_table.specs.declared.rows.Percents.TheVariants.{Few, Each}
 use Rattle.pc_table.specs.declared.rows.Rows.{Rows}
 
--- what would divide a name in CSV: a space, a comma or a quotation mark
-abbrev pub divides : ℕ → Bool
-divides byte = (byte == 32) || (byte == 44) || (byte == 34)
-
--- a name as one word of CSV
+-- a name without spaces
 abbrev pub joined : List ℕ → List ℕ
-joined name = map (λ byte. if divides byte then 95 else byte) name
+joined name = map (λ byte. if byte == 32 then 95 else byte) name
 
 -- a row's name as it is written
 abbrev pub name_text : Layout → List ℕ → List ℕ
@@ -53,20 +48,6 @@ names_of layout rows = codes "variant" ∷ map (name_text layout) (flat_map name
 abbrev pub cells_of : Layout → List Rows → Column → List (List ℕ)
 cells_of layout rows column =
     column.name.now ∷ map (value_text layout) (flat_map (λ each. values_in each column.summary) rows)
-
--- the names of the rows of groups
-abbrev pub names_by_group : Layout → List (List ℕ) → List (List ℕ)
-names_by_group layout groups = map (name_text layout) (flat_map names_of_group groups)
-
--- the value of a run in each of these
-abbrev pub cells_by_group : Layout → ℕ → List (Option ℕ) → Column → List (List ℕ)
-cells_by_group layout groups places column =
-    map (value_text layout) (values_by_group groups places column.summary)
-
--- the name of a run, and its value in all rows
-abbrev pub all_cells_of : Layout → List Rows → ℕ → List (Option ℕ) → Column → List (List ℕ)
-all_cells_of layout rows groups places column =
-    cells_of layout rows column ++ cells_by_group layout groups places column
 
 -- the length of the longest text
 abbrev pub widest : List (List ℕ) → ℕ
@@ -101,14 +82,8 @@ abbrev pub sheet_text : Layout → List (List ℕ) → List (List (List ℕ)) �
 sheet_text Table names columns = table_text names columns
 sheet_text Csv names columns = flat_map csv_line (names ∷ columns)
 
--- the sheet of these rows, and of those of these groups
-abbrev pub sheet_of : Layout → Demand → List Column → List Rows → List (List ℕ) → List ℕ
-sheet_of layout load columns rows groups =
-    sheet_text layout (names_of layout rows ++ names_by_group layout groups)
-    (map (all_cells_of layout rows (length groups) (places_in groups load.threads)) columns)
-
 -- the text that compares runs of a load
 abbrev pub text_of : Form → Demand → List Column → List ℕ
 text_of form load columns =
-    sheet_of form.layout load columns (rows_of (percents_in form.layout) form.per_cpu load columns)
-    (groups_in form.by_group load)
+    let rows = rows_of (percents_in form.layout) form.per_cpu load columns in
+    sheet_text form.layout (names_of form.layout rows) (map (cells_of form.layout rows) columns)

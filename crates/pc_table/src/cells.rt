@@ -1,17 +1,13 @@
 //! The columns of a sheet: the names of its rows, and what each run has there.
 
 ghost use Rattle.std.specs.Prelude.{◌≡◌, ◌==◌, ◌++◌, ◌∷◌, [], IfOk, IfSome, OnOk, map, if◌then◌else◌};
-ghost use Rattle.pc_table.specs.Groups.{names_of_group};
-ghost use Rattle.pc_table.specs.Sheets.{cells_of, divides, joined, name_text, names_by_group, names_of};
+ghost use Rattle.pc_table.specs.Sheets.{cells_of, joined, name_text, names_of};
 ghost use Rattle.pc_table.specs.Values.{is_told, names_in, percentile_name, told};
 
-use crate::figures::every_wait;
 use crate::form::{Column, Layout};
-use crate::groups::front_of;
 use crate::names::{Percentile, Sum};
-use crate::rows::{Number, Percents, Rows, Spent, Which};
+use crate::rows::{Percents, Rows, Which};
 use crate::strip::{Strip, spelled};
-use crate::table::push_bytes;
 use crate::values::push_values;
 use std::alloc::{AllocError, Global};
 use std::fmt::Display;
@@ -26,21 +22,14 @@ pub(crate) fn is_told(percents: Percents, percent: u8) -> bool
     }
 }
 
-/// Whether a byte would divide a name in CSV.
-fn divides(byte: u8) -> bool
-    ensures { result ≡ divides byte }
-{
-    byte == b' ' || byte == b',' || byte == b'"'
-}
-
-/// A byte of a name as one word of CSV.
+/// A byte of a name without spaces.
 fn joined_byte(byte: u8) -> u8
-    ensures { result ≡ (if divides byte then 95 else byte) }
+    ensures { result ≡ (if byte == 32 then 95 else byte) }
 {
-    if divides(byte) { b'_' } else { byte }
+    if byte == b' ' { b'_' } else { byte }
 }
 
-/// A name as one word of CSV.
+/// A name without spaces.
 fn joined(alloc: Global, name: &[u8]) -> Result<Vec<u8>, AllocError>
     ensures { IfOk result (λ text. text.items ≡ joined name.now) }
 {
@@ -51,28 +40,17 @@ fn joined(alloc: Global, name: &[u8]) -> Result<Vec<u8>, AllocError>
     Ok(text)
 }
 
-/// A row's name behind what stands in front of it.
-fn name_behind<T: Display>(alloc: Global, front: &[u8], name: &T) -> Result<Vec<u8>, AllocError>
-    ensures { IfOk result (λ text. IfSome (T.output name.now) (λ said. text.items ≡ front.now ++ said)) }
-{
-    let mut text = Vec::from_slice(alloc, front)?;
-    let said = spelled(alloc, name)?;
-    push_bytes(&mut text, said.as_slice())?;
-    Ok(text)
-}
-
-/// Adds a row's name, behind what stands in front of it.
+/// Adds a row's name.
 fn push_name<T: Display>(
     names: &mut Strip,
     alloc: Global,
     layout: Layout,
-    front: &[u8],
     name: &T,
 ) -> Result<(), AllocError>
     ensures { OnOk result (IfSome (T.output name.now)
-        (λ said. names.new ≡ names.old ++ name_text layout (front.now ++ said) ∷ [])) }
+        (λ said. names.new ≡ names.old ++ name_text layout said ∷ [])) }
 {
-    let text = name_behind(alloc, front, name)?;
+    let text = spelled(alloc, name)?;
     match layout {
         Layout::Table => names.push(text),
         Layout::Csv => names.push(joined(alloc, text.as_slice())?),
@@ -84,16 +62,15 @@ fn push_percentile(
     names: &mut Strip,
     alloc: Global,
     layout: Layout,
-    front: &[u8],
     which: Which,
     percents: Percents,
     percent: u8,
 ) -> Result<(), AllocError>
-    ensures { OnOk result (names.new ≡ names.old ++ (if is_told percents percent
-        then name_text layout (front.now ++ percentile_name which percent) ∷ [] else [])) }
+    ensures { OnOk result (names.new ≡ names.old
+        ++ (if is_told percents percent then name_text layout (percentile_name which percent) ∷ [] else [])) }
 {
     if is_told(percents, percent) {
-        push_name(names, alloc, layout, front, &Percentile { which, percent })?;
+        push_name(names, alloc, layout, &Percentile { which, percent })?;
     }
     Ok(())
 }
@@ -103,15 +80,14 @@ fn push_percentiles(
     names: &mut Strip,
     alloc: Global,
     layout: Layout,
-    front: &[u8],
     which: Which,
     percents: Percents,
 ) -> Result<(), AllocError>
-    ensures { OnOk result (names.new ≡ names.old
-        ++ map (λ percent. name_text layout (front.now ++ percentile_name which percent)) (told percents)) }
+    ensures { OnOk result (names.new
+        ≡ names.old ++ map (λ percent. name_text layout (percentile_name which percent)) (told percents)) }
 {
     for percent in 1..101u8 {
-        push_percentile(names, alloc, layout, front, which, percents, percent)?;
+        push_percentile(names, alloc, layout, which, percents, percent)?;
     }
     Ok(())
 }
@@ -121,15 +97,14 @@ fn push_waits(
     names: &mut Strip,
     alloc: Global,
     layout: Layout,
-    front: &[u8],
     which: Which,
     percents: Percents,
 ) -> Result<(), AllocError>
-    ensures { OnOk result (names.new ≡ names.old
-        ++ map (λ name. name_text layout (front.now ++ name)) (names_in (Rows.Waits which percents))) }
+    ensures { OnOk result (names.new
+        ≡ names.old ++ map (name_text layout) (names_in (Rows.Waits which percents))) }
 {
-    push_percentiles(names, alloc, layout, front, which, percents)?;
-    push_name(names, alloc, layout, front, &Sum { which })?;
+    push_percentiles(names, alloc, layout, which, percents)?;
+    push_name(names, alloc, layout, &Sum { which })?;
     Ok(())
 }
 
@@ -143,52 +118,12 @@ fn push_names(
     ensures { OnOk result (names.new ≡ names.old ++ map (name_text layout) (names_in rows)) }
 {
     match rows {
-        Rows::One(number) => push_name(names, alloc, layout, &[], &number),
-        Rows::Waits(which, percents) => { push_waits(names, alloc, layout, &[], which, percents) }
+        Rows::One(number) => push_name(names, alloc, layout, &number),
+        Rows::Waits(which, percents) => push_waits(names, alloc, layout, which, percents),
     }
 }
 
-/// Adds the names of the rows of a group.
-fn push_group_names(
-    names: &mut Strip,
-    alloc: Global,
-    layout: Layout,
-    group: &[u8],
-) -> Result<(), AllocError>
-    ensures { OnOk result
-        (names.new ≡ names.old ++ map (name_text layout) (names_of_group group.now)) }
-{
-    let front = front_of(alloc, group)?;
-    let ran = Number::Total(Spent::Ran);
-    push_waits(
-        names,
-        alloc,
-        layout,
-        front.as_slice(),
-        every_wait(),
-        Percents::Few,
-    )?;
-    push_name(names, alloc, layout, front.as_slice(), &ran)?;
-    Ok(())
-}
-
-/// Adds the names of the rows of groups.
-pub(crate) fn push_names_by_group(
-    names: &mut Strip,
-    alloc: Global,
-    layout: Layout,
-    groups: &[&[u8]],
-) -> Result<(), AllocError>
-    ensures { OnOk result
-        (names.new ≡ names.old ++ names_by_group layout (map (λ group. group.now) groups.now)) }
-{
-    for group in groups {
-        push_group_names(names, alloc, layout, group)?;
-    }
-    Ok(())
-}
-
-/// The names of all rows but those of groups.
+/// The names of all rows.
 pub(crate) fn names_of(alloc: Global, layout: Layout, rows: &[Rows]) -> Result<Strip, AllocError>
     ensures { IfOk result (λ names. names ≡ names_of layout rows.now) }
 {

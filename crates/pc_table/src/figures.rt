@@ -21,7 +21,7 @@ pub struct Figures {
 }
 
 /// Every wait.
-pub(crate) const fn every_wait() -> Which
+const fn every_wait() -> Which
     ensures { result ≡ every_wait }
 {
     Which {

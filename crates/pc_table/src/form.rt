@@ -17,8 +17,6 @@ pub struct Form {
     pub layout: Layout,
     /// Whether the time of each CPU is told, too.
     pub per_cpu: bool,
-    /// Whether the waits and the ticks of each group of threads are told, too.
-    pub by_group: bool,
 }
 
 /// A run that is compared (own).

@@ -1,6 +1,6 @@
-//! Percentiles of waits.
+//! Percentiles of waits, and their sum.
 
-ghost use Rattle.std.specs.Prelude.{◌≡◌, ◌≤◌, ℕ, List};
+ghost use Rattle.std.specs.Prelude.{◌≡◌, ◌≤◌, ℕ, List, sum};
 ghost use Rattle.std.specs.List.Sorted.{IsNonDecreasing, IsPermutation};
 ghost use Rattle.pc_table.specs.Percentiles.{percentile, rank_in};
 
@@ -21,4 +21,15 @@ pub(crate) fn percentile(percent: u8, ascending: &[u64]) -> Option<u64>
 {
     let rank = rank_in(percent, ascending.len());
     ascending.get(rank.saturating_sub(1)).copied()
+}
+
+/// The sum of numbers.
+pub(crate) fn sum_of(numbers: &[u64]) -> u128
+    ensures { result ≡ sum numbers.now }
+{
+    let mut sum = 0;
+    for number in numbers {
+        sum += *number as u128;
+    }
+    sum
 }

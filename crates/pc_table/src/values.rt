@@ -1,25 +1,20 @@
 //! What is told of a run in each row.
 
-ghost use Rattle.std.specs.Prelude.{◌≡◌, ◌≤◌, ℕ, List, ◌++◌, ◌∷◌, [], OnOk, length, map, flat_map, sum};
-ghost use Rattle.std.specs.Prelude.{decimal, None, if◌then◌else◌, slice_index_or};
-ghost use Rattle.std.specs.List.{range_with_len};
+ghost use Rattle.std.specs.Prelude.{◌≡◌, ◌≤◌, ℕ, List, ◌++◌, ◌∷◌, [], OnOk, map, sum, decimal, None, if◌then◌else◌};
 ghost use Rattle.std.specs.Option.{option_map};
 ghost use Rattle.std.specs.List.Sorted.{IsNonDecreasing, IsPermutation};
-ghost use Rattle.pc_table.specs.Groups.{told_of_group, values_by_group};
 ghost use Rattle.pc_table.specs.Percentiles.{percentile};
 ghost use Rattle.pc_table.specs.Sheets.{percentile_text, value_text};
 ghost use Rattle.pc_table.specs.Values.{is_told, spent_in, sum_of, told, value_of, values_in, values_of_waits};
 
 use crate::cells::is_told;
-use crate::figures::every_wait;
 use crate::form::Layout;
 use crate::names::ending_word;
-use crate::parts::{Parts, ran_by, waited_by};
-use crate::percentiles::percentile;
+use crate::percentiles::{percentile, sum_of};
 use crate::rows::{Number, Percents, Rows, Spent, Which};
 use crate::strip::Strip;
 use crate::waits::ticks_of;
-use pc_lab::{CpuTime, Summary, sum_of};
+use pc_lab::{CpuTime, Summary};
 use std::alloc::{AllocError, Global};
 
 /// The ticks of a CPU that went to this.
@@ -174,57 +169,6 @@ fn push_waits(
 {
     ticks.sort_unstable();
     push_ascending(cells, layout, which, percents, ticks.as_slice())?;
-    Ok(())
-}
-
-/// Adds what is told of a group whose threads waited and ran so.
-fn push_group(
-    cells: &mut Strip,
-    layout: Layout,
-    waited: Vec<u64>,
-    ran: &[u64],
-) -> Result<(), AllocError>
-    ensures { OnOk result (cells.new
-        ≡ cells.old ++ map (value_text layout) (told_of_group waited.items ran.now)) }
-{
-    push_waits(cells, layout, every_wait(), Percents::Few, waited)?;
-    cells.push_spelled(&sum_of(ran))?;
-    Ok(())
-}
-
-/// Adds what is told of groups whose threads waited and ran so.
-fn push_groups(
-    cells: &mut Strip,
-    layout: Layout,
-    mut waited: Parts,
-    ran: &Parts,
-) -> Result<(), AllocError>
-    ensures { OnOk result (cells.new ≡ cells.old ++ flat_map (λ place. map (value_text layout)
-        (told_of_group (slice_index_or waited place []) (slice_index_or ran.now place [])))
-        (range_with_len 0 (length waited))) }
-{
-    for place in 0..waited.len() {
-        let ticks = waited.take(place);
-        push_group(cells, layout, ticks, ran.part(place))?;
-    }
-    Ok(())
-}
-
-/// Adds what is told of a run in the rows of so many groups, among which those of threads have these places.
-pub(crate) fn push_by_group(
-    cells: &mut Strip,
-    alloc: Global,
-    layout: Layout,
-    groups: usize,
-    places: &[Option<usize>],
-    summary: &Summary,
-) -> Result<(), AllocError>
-    ensures { OnOk result (cells.new
-        ≡ cells.old ++ map (value_text layout) (values_by_group groups places.now summary.now)) }
-{
-    let waited = waited_by(alloc, groups, places, summary)?;
-    let ran = ran_by(alloc, groups, places, summary)?;
-    push_groups(cells, layout, waited, &ran)?;
     Ok(())
 }
 

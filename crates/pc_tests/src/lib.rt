@@ -17,8 +17,6 @@ mod kernel;
 #[cfg(test)]
 mod queue;
 #[cfg(test)]
-mod remarks;
-#[cfg(test)]
 mod rows;
 #[cfg(test)]
 mod run_queue;

@@ -32,10 +32,6 @@ fn draft_of(alloc: Global, ticks: u32) -> Result<ThreadDraft, LabFault> {
         start: 0,
         level: 0,
         sleeps: Vec::new(alloc),
-        name: String::new(alloc),
-        pid: 0,
-        group: String::new(alloc),
-        wakers: Vec::new(alloc),
     })
 }
 
@@ -311,7 +307,6 @@ impl Kept {
 const FORM: Form = Form {
     layout: Layout::Csv,
     per_cpu: true,
-    by_group: true,
 };
 
 fn tables(alloc: Global, load: &Load, variants: &Variants) -> Result<bool, CompareFault> {

@@ -56,15 +56,9 @@ fn tells(
 #[test]
 fn the_lab_tells_what_is_asked_for(rt: HostRuntime) -> Result<(), Fail> {
     let alloc = rt.alloc();
-    let table = LabOutput::of(true, true, false, false, None);
-    let picture = LabOutput::of(false, false, false, true, None);
-    let script = LabOutput::of(
-        true,
-        true,
-        true,
-        true,
-        Some(String::from_str(alloc, "plain")?),
-    );
+    let table = LabOutput::of(true, false, false, None);
+    let picture = LabOutput::of(false, false, true, None);
+    let script = LabOutput::of(true, true, true, Some(String::from_str(alloc, "plain")?));
     for with_variants in [false, true] {
         assert!(rt; tells(alloc, with_variants, &table, "variant ")?);
         assert!(rt; tells(alloc, with_variants, &picture, "<svg ")?);

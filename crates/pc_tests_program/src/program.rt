@@ -1,9 +1,9 @@
 //! What no script of tests/cases can say: a script over memory, the words of a command line, and how the program ends.
 
 use pc_program::{
-    Axis, CommandFault, DrawnPart, Ending, Failure, Helper, ImportFiles, ImportLoad, Interval,
-    Missing, ProgramCommand, ReportForm, ScriptForm, Seeds, VariantsFrom, converse_flushed, make,
-    read_command, replay_flushed, run_script,
+    Axis, CommandFault, DrawnPart, Ending, Failure, Helper, Interval, Missing, ProgramCommand,
+    ReportForm, ScriptForm, Seeds, VariantsFrom, converse_flushed, make, read_command,
+    replay_flushed, run_script,
 };
 use pc_script::Outcome;
 use std::alloc::Global;
@@ -135,11 +135,9 @@ enum Asked {
     Run(ReportForm, Option<u32>),
     Tally(Seeds),
     Session(bool),
-    /// Whether other variants are tried, whether the time of each CPU is told, whether each group, whether for other
-    /// tools, and whether the waits are drawn.
-    Lab(bool, [bool; 4]),
-    /// Of which CPUs and microseconds, and of how many events at most; which files are named, and which flags are set.
-    Import([Option<Interval>; 2], Option<u64>, [bool; 6], [bool; 3]),
+    /// Whether other variants are tried, whether the time of each CPU is told, whether for other tools, and whether the
+    /// waits are drawn.
+    Lab(bool, bool, bool, bool),
 }
 
 fn read_off(
@@ -162,40 +160,14 @@ fn read_off(
             file,
             variants,
             per_cpu,
-            by_group,
             csv,
             picture,
             ..
-        } => {
-            let flags = [per_cpu, by_group, csv, picture];
-            Ok((Asked::Lab(are_others(&variants), flags), file))
-        }
-        ProgramCommand::Import {
+        } => Ok((
+            Asked::Lab(are_others(&variants), per_cpu, csv, picture),
             file,
-            files,
-            told,
-            times,
-            kernel_threads,
-            cpus,
-            limit,
-        } => {
-            let (flags, numbers) = ([times, kernel_threads, told.all], [cpus, told.window]);
-            let named = are_named(&files, &told);
-            Ok((Asked::Import(numbers, limit, named, flags), file))
-        }
+        )),
     }
-}
-
-/// Which files a recording is written into, and which groups and levels are told, each by what its option has here.
-fn are_named(files: &ImportFiles, told: &ImportLoad) -> [bool; 6] {
-    [
-        is_named(&files.script, Some("made.script")),
-        is_named(&files.load, Some("load.toml")),
-        is_named(&files.settings, Some("settings.toml")),
-        is_named(&files.waits, Some("-")),
-        is_named(&told.groups, Some("pid")),
-        is_named(&told.levels, Some("none")),
-    ]
 }
 
 /// Whether variants are those of another text.
@@ -285,7 +257,7 @@ const LAST_SEEDS: Asked = Asked::Tally(Seeds {
 });
 
 /// Words, and what they ask for, of which file.
-static COMMANDS: [(&[&str], Asked, Option<&str>); 29] = [
+static COMMANDS: [(&[&str], Asked, Option<&str>); 27] = [
     (&["pc-sim", "replay"], Asked::Replay, None),
     (
         &["pc-sim", "replay", "a.script"],
@@ -380,72 +352,25 @@ static COMMANDS: [(&[&str], Asked, Option<&str>); 29] = [
         Asked::Session(true),
         Some("a.script"),
     ),
-    (&["pc-sim", "lab", "-"], Asked::Lab(false, [false; 4]), None),
+    (
+        &["pc-sim", "lab", "-"],
+        Asked::Lab(false, false, false, false),
+        None,
+    ),
     (
         &["pc-sim", "lab", "l.toml", "--per-cpu", "--variants", "-"],
-        Asked::Lab(true, [true, false, false, false]),
+        Asked::Lab(true, true, false, false),
         Some("l.toml"),
     ),
     (
-        &[
-            "pc-sim",
-            "lab",
-            "--variants=v.toml",
-            "--csv",
-            "l.toml",
-            "--by-group",
-        ],
-        Asked::Lab(true, [false, true, true, false]),
+        &["pc-sim", "lab", "--variants=v.toml", "--csv", "l.toml"],
+        Asked::Lab(true, false, true, false),
         Some("l.toml"),
     ),
     (
         &["pc-sim", "lab", "--picture", "l.toml"],
-        Asked::Lab(false, [false, false, false, true]),
+        Asked::Lab(false, false, false, true),
         Some("l.toml"),
-    ),
-    (
-        &["pc-sim", "import", "-"],
-        Asked::Import([None; 2], None, [false; 6], [false; 3]),
-        None,
-    ),
-    (
-        &[
-            "pc-sim",
-            "import",
-            "--script=made.script",
-            "r.txt",
-            "--load",
-            "load.toml",
-            "--settings",
-            "settings.toml",
-            "--waits",
-            "-",
-            "--times",
-            "--kernel-threads",
-            "--cpus",
-            "3-7",
-            "--window",
-            "500-1499",
-            "--all",
-            "--group-by=pid",
-            "--levels",
-            "none",
-            "--limit",
-            "18446744073709551615",
-        ],
-        Asked::Import(
-            [
-                Some(Interval { first: 3, last: 7 }),
-                Some(Interval {
-                    first: 500,
-                    last: 1_499,
-                }),
-            ],
-            Some(u64::MAX),
-            [true; 6],
-            [true; 3],
-        ),
-        Some("r.txt"),
     ),
 ];
 

@@ -28,16 +28,15 @@ layout_by false = layout.Table
 
 -- what is wanted by flags and the name behind `--script`: where a script is named they change nothing, and where a
 -- picture is asked for those of the table change nothing
-abbrev pub IsAskedBy : (per_cpu by_group csv picture : Bool) → Option (List ℕ) → LabOutput → Type 0
-IsAskedBy per_cpu by_group csv false None (Table form) =
-    form ≡ record { layout = layout_by csv; per_cpu = per_cpu; by_group = by_group }
-IsAskedBy per_cpu by_group csv true None Picture = Unit {0}
-IsAskedBy per_cpu by_group csv picture (Some name) (Script given) = string_bytes given ≡ name
-IsAskedBy per_cpu by_group csv true None (Table form) = ⊥
-IsAskedBy per_cpu by_group csv false None Picture = ⊥
-IsAskedBy per_cpu by_group csv picture None (Script given) = ⊥
-IsAskedBy per_cpu by_group csv picture (Some name) (Table form) = ⊥
-IsAskedBy per_cpu by_group csv picture (Some name) Picture = ⊥
+abbrev pub IsAskedBy : (per_cpu csv picture : Bool) → Option (List ℕ) → LabOutput → Type 0
+IsAskedBy per_cpu csv false None (Table form) = form ≡ record { layout = layout_by csv; per_cpu = per_cpu }
+IsAskedBy per_cpu csv true None Picture = Unit {0}
+IsAskedBy per_cpu csv picture (Some name) (Script given) = string_bytes given ≡ name
+IsAskedBy per_cpu csv true None (Table form) = ⊥
+IsAskedBy per_cpu csv false None Picture = ⊥
+IsAskedBy per_cpu csv picture None (Script given) = ⊥
+IsAskedBy per_cpu csv picture (Some name) (Table form) = ⊥
+IsAskedBy per_cpu csv picture (Some name) Picture = ⊥
 
 -- the text that is wanted of a load under variants: the table that compares them, a picture of their waits, or the
 -- script of the named one

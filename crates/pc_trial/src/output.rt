@@ -19,24 +19,14 @@ pub enum LabOutput {
 impl LabOutput {
     /// What is wanted where these flags stand. Where a script is named they change nothing, and where a picture is
     /// asked for the flags of the table change nothing.
-    pub fn of(
-        per_cpu: bool,
-        by_group: bool,
-        csv: bool,
-        picture: bool,
-        script: Option<String>,
-    ) -> LabOutput
-        ensures { IsAskedBy per_cpu by_group csv picture (option_map string_bytes script) result }
+    pub fn of(per_cpu: bool, csv: bool, picture: bool, script: Option<String>) -> LabOutput
+        ensures { IsAskedBy per_cpu csv picture (option_map string_bytes script) result }
     {
         let layout = if csv { Layout::Csv } else { Layout::Table };
         match script {
             Some(name) => LabOutput::Script(name),
             None if picture => LabOutput::Picture,
-            None => LabOutput::Table(Form {
-                layout,
-                per_cpu,
-                by_group,
-            }),
+            None => LabOutput::Table(Form { layout, per_cpu }),
         }
     }
 }

@@ -18,7 +18,7 @@ fn delta_at(world: Option<&World>, index: u64) -> Option<&Delta> {
 
 /// An agent took in what its queue holds, and sent it.
 pub(super) fn published(
-    text: &mut Sentences<'_>,
+    text: &mut Sentences,
     cpu: Cpu,
     delta: u64,
     items: u32,
@@ -34,7 +34,7 @@ pub(super) fn published(
 }
 
 /// What a delta that was sent tells.
-fn tells(text: &mut Sentences<'_>, delta: u64, world: Option<&World>) -> fmt::Result {
+fn tells(text: &mut Sentences, delta: u64, world: Option<&World>) -> fmt::Result {
     let Some(sent) = delta_at(world, delta) else {
         return writeln!(text, "Delta {delta} is sent.");
     };
@@ -42,14 +42,13 @@ fn tells(text: &mut Sentences<'_>, delta: u64, world: Option<&World>) -> fmt::Re
     if news.is_empty() {
         writeln!(text, "Delta {delta} is sent, and tells no message.")
     } else {
-        let news = news.in_words(text.names());
         writeln!(text, "Delta {delta} is sent, and tells {news}.")
     }
 }
 
 /// An agent answered another.
 pub(super) fn sent_answer(
-    text: &mut Sentences<'_>,
+    text: &mut Sentences,
     cpu: Cpu,
     asker: Cpu,
     delta: u64,
@@ -66,7 +65,7 @@ pub(super) fn sent_answer(
 
 /// An agent took in a delta.
 pub(super) fn delivered(
-    text: &mut Sentences<'_>,
+    text: &mut Sentences,
     cpu: Cpu,
     delta: u64,
     before: &Before,
@@ -74,7 +73,6 @@ pub(super) fn delivered(
     let agent = cpu.index();
     match before {
         Before::News(news) if !news.is_empty() => {
-            let news = news.in_words(text.names());
             writeln!(text, "Agent {agent} now knows {news}.")
         }
         Before::News(_) => writeln!(text, "Delta {delta} tells agent {agent} nothing new."),
@@ -83,7 +81,7 @@ pub(super) fn delivered(
 }
 
 /// An agent started again.
-pub(super) fn crashed(text: &mut Sentences<'_>, cpu: Cpu, before: &Before) -> fmt::Result {
+pub(super) fn crashed(text: &mut Sentences, cpu: Cpu, before: &Before) -> fmt::Result {
     let agent = cpu.index();
     match before {
         Before::Known(threads) => {
@@ -103,53 +101,48 @@ pub(super) fn crashed(text: &mut Sentences<'_>, cpu: Cpu, before: &Before) -> fm
 
 /// A thread's messages go to another queue.
 pub(super) fn associated(
-    text: &mut Sentences<'_>,
+    text: &mut Sentences,
     event: &Event,
     thread: Tid,
     queue: Cpu,
     before: &Before,
 ) -> fmt::Result {
-    let thread = text.thread(thread);
+    let thread = thread.index();
     let queue = queue.index();
     match (event, before) {
         (Event::Steal { .. }, _) => writeln!(
             text,
-            "Agent {queue} takes thread {thread} over: its messages go to queue {queue} from now on."
+            "Agent {queue} takes thread t{thread} over: its messages go to queue {queue} from now on."
         ),
         (_, Before::Home(Some(home))) => {
             let home = home.index();
             writeln!(
                 text,
-                "Messages of thread {thread} go to queue {queue} from now on, and went to queue {home}."
+                "Messages of thread t{thread} go to queue {queue} from now on, and went to queue {home}."
             )
         }
         _ => writeln!(
             text,
-            "Messages of thread {thread} go to queue {queue} from now on."
+            "Messages of thread t{thread} go to queue {queue} from now on."
         ),
     }
 }
 
 /// A thread runs.
-pub(super) fn committed(
-    text: &mut Sentences<'_>,
-    event: &Event,
-    thread: Tid,
-    cpu: Cpu,
-) -> fmt::Result {
-    let thread = text.thread(thread);
+pub(super) fn committed(text: &mut Sentences, event: &Event, thread: Tid, cpu: Cpu) -> fmt::Result {
+    let thread = thread.index();
     let cpu = cpu.index();
     match event {
         Event::Pick { .. } => writeln!(
             text,
-            "Thread {thread} is the first of agent {cpu}'s run list that may run here: it runs on CPU {cpu} now."
+            "Thread t{thread} is the first of agent {cpu}'s run list that may run here: it runs on CPU {cpu} now."
         ),
-        _ => writeln!(text, "Thread {thread} runs on CPU {cpu} now."),
+        _ => writeln!(text, "Thread t{thread} runs on CPU {cpu} now."),
     }
 }
 
 /// An agent removed what it has sent.
-pub(super) fn consumed(text: &mut Sentences<'_>, cpu: Cpu, items: u32) -> fmt::Result {
+pub(super) fn consumed(text: &mut Sentences, cpu: Cpu, items: u32) -> fmt::Result {
     let agent = cpu.index();
     if items == 0 {
         return writeln!(
@@ -165,7 +158,7 @@ pub(super) fn consumed(text: &mut Sentences<'_>, cpu: Cpu, items: u32) -> fmt::R
 }
 
 /// An agent sleeps, is awake, or is chosen for a queue.
-pub(super) fn marked(text: &mut Sentences<'_>, event: &Event) -> fmt::Result {
+pub(super) fn marked(text: &mut Sentences, event: &Event) -> fmt::Result {
     match event {
         Event::Agent(AgentCall::Sleep { cpu, .. }) => {
             let agent = cpu.index();
@@ -193,7 +186,7 @@ pub(super) fn marked(text: &mut Sentences<'_>, event: &Event) -> fmt::Result {
 }
 
 /// An agent is chosen for a queue, or none is.
-fn configured(text: &mut Sentences<'_>, queue: Cpu, target: Option<Cpu>) -> fmt::Result {
+fn configured(text: &mut Sentences, queue: Cpu, target: Option<Cpu>) -> fmt::Result {
     let queue = queue.index();
     match target {
         Some(cpu) => {

@@ -3,11 +3,11 @@
 use crate::sentences::Sentences;
 use crate::words::{Count, Cpus};
 use pc_calls::{EnvCall, Leaving, Left, Posted};
-use pc_messages::{Phase, Tid};
+use pc_messages::Phase;
 use std::fmt::{self, Write};
 
 /// A call that posted an item.
-pub(super) fn posted(text: &mut Sentences<'_>, call: &EnvCall, posted: &Posted) -> fmt::Result {
+pub(super) fn posted(text: &mut Sentences, call: &EnvCall, posted: &Posted) -> fmt::Result {
     changed(text, call, posted)?;
     let queue = posted.queue.index();
     let posts = Count(u64::from(posted.aseq), "post");
@@ -31,10 +31,11 @@ pub(super) fn posted(text: &mut Sentences<'_>, call: &EnvCall, posted: &Posted) 
 }
 
 /// What the call changed.
-fn changed(text: &mut Sentences<'_>, call: &EnvCall, posted: &Posted) -> fmt::Result {
-    // A tick, of which no thread is told, has none.
-    let changed = posted.thread.unwrap_or(Tid(0));
-    let thread = text.thread(changed);
+fn changed(text: &mut Sentences, call: &EnvCall, posted: &Posted) -> fmt::Result {
+    let thread = match posted.thread {
+        Some(thread) => thread.index(),
+        None => 0,
+    };
     match call {
         EnvCall::Create { mask, ready, .. } => {
             let phase = if *ready { Phase::Ready } else { Phase::Blocked };
@@ -42,16 +43,16 @@ fn changed(text: &mut Sentences<'_>, call: &EnvCall, posted: &Posted) -> fmt::Re
             let cpus = Cpus(*mask);
             writeln!(
                 text,
-                "There is a new thread {thread}, {state}, which may run on {cpus}."
+                "There is a new thread t{thread}, {state}, which may run on {cpus}."
             )
         }
-        EnvCall::Wake { .. } => writeln!(text, "Thread {thread} was blocked, and is ready."),
+        EnvCall::Wake { .. } => writeln!(text, "Thread t{thread} was blocked, and is ready."),
         EnvCall::SetAffinity { mask, .. } => {
             let cpus = Cpus(*mask);
-            writeln!(text, "Thread {thread} may run on {cpus} from now on.")
+            writeln!(text, "Thread t{thread} may run on {cpus} from now on.")
         }
         EnvCall::SetPriority { level, .. } => {
-            writeln!(text, "Thread {thread} has level {level} from now on.")
+            writeln!(text, "Thread t{thread} has level {level} from now on.")
         }
         EnvCall::Tick { cpu } => {
             let cpu = cpu.index();
@@ -61,30 +62,24 @@ fn changed(text: &mut Sentences<'_>, call: &EnvCall, posted: &Posted) -> fmt::Re
         | EnvCall::Block { .. }
         | EnvCall::Preempt { .. }
         | EnvCall::Die { .. } => match call.left() {
-            Some(how) => left(text, changed, &how),
+            Some(how) => left(text, thread, &how),
             None => Ok(()),
         },
     }
 }
 
-/// What a thread is that left its CPU so.
-fn state_behind(leaving: Leaving) -> &'static str {
-    match leaving {
+/// A thread that left its CPU.
+fn left(text: &mut Sentences, thread: u32, how: &Left) -> fmt::Result {
+    let cpu = how.cpu.index();
+    let ticks = Count(u64::from(how.ran), "tick");
+    let state = match how.leaving {
         Leaving::Yield => "stays ready: it yielded",
         Leaving::Block => "is blocked",
         Leaving::Preempt => "stays ready: it was preempted",
         Leaving::Die => "is dead",
-    }
-}
-
-/// A thread that left its CPU.
-fn left(text: &mut Sentences<'_>, thread: Tid, how: &Left) -> fmt::Result {
-    let thread = text.thread(thread);
-    let cpu = how.cpu.index();
-    let ticks = Count(u64::from(how.ran), "tick");
-    let state = state_behind(how.leaving);
+    };
     writeln!(
         text,
-        "Thread {thread} leaves CPU {cpu}, which is idle now, after {ticks}, and {state}."
+        "Thread t{thread} leaves CPU {cpu}, which is idle now, after {ticks}, and {state}."
     )
 }

@@ -12,7 +12,7 @@ use std::fmt::{self, Write};
 
 /// What was done, or why nothing was.
 pub(super) fn told(
-    text: &mut Sentences<'_>,
+    text: &mut Sentences,
     cpu: Cpu,
     reply: &Reply,
     scene: &CommandContext<'_>,
@@ -41,7 +41,7 @@ pub(super) fn told(
 }
 
 /// Every queue was cleared, and the agent took in all that was sent.
-fn learnt(text: &mut Sentences<'_>, cpu: Cpu, world: &World, before: &Before) -> fmt::Result {
+fn learnt(text: &mut Sentences, cpu: Cpu, world: &World, before: &Before) -> fmt::Result {
     let agent = cpu.index();
     let deltas = Count(world.sent().len() as u64, "delta");
     match before {
@@ -62,28 +62,28 @@ fn learnt(text: &mut Sentences<'_>, cpu: Cpu, world: &World, before: &Before) ->
 
 /// A thread runs there now, from the run list or once it was stolen.
 fn runs(
-    text: &mut Sentences<'_>,
+    text: &mut Sentences,
     cpu: Cpu,
     thread: Tid,
     world: &World,
     before: &Before,
 ) -> fmt::Result {
     let agent = cpu.index();
-    let thread = text.thread(thread);
+    let thread = thread.index();
     match before {
         Before::Held { steals, .. } if steals_of(world, cpu) > *steals => writeln!(
             text,
-            "Nothing in its run list may be committed, so it steals thread {thread}, which runs on CPU {agent} from now on."
+            "Nothing in its run list may be committed, so it steals thread t{thread}, which runs on CPU {agent} from now on."
         ),
         _ => writeln!(
             text,
-            "It picks thread {thread} from its run list, which runs on CPU {agent} from now on."
+            "It picks thread t{thread} from its run list, which runs on CPU {agent} from now on."
         ),
     }
 }
 
 /// No thread was there that the agent may take.
-fn idles(text: &mut Sentences<'_>, cpu: Cpu) -> fmt::Result {
+fn idles(text: &mut Sentences, cpu: Cpu) -> fmt::Result {
     let agent = cpu.index();
     write!(text, "It knows every message now, and no thread ")?;
     writeln!(
@@ -93,7 +93,7 @@ fn idles(text: &mut Sentences<'_>, cpu: Cpu) -> fmt::Result {
 }
 
 /// Nothing was done.
-fn refused(text: &mut Sentences<'_>, cpu: Cpu, refusal: &Refusal, world: &World) -> fmt::Result {
+fn refused(text: &mut Sentences, cpu: Cpu, refusal: &Refusal, world: &World) -> fmt::Result {
     refusals::because(text, reason(*refusal))?;
     match refusal {
         Refusal::Busy => busy(text, cpu, world),
@@ -102,14 +102,14 @@ fn refused(text: &mut Sentences<'_>, cpu: Cpu, refusal: &Refusal, world: &World)
 }
 
 /// A thread runs on the CPU.
-fn busy(text: &mut Sentences<'_>, cpu: Cpu, world: &World) -> fmt::Result {
+fn busy(text: &mut Sentences, cpu: Cpu, world: &World) -> fmt::Result {
     let Some(thread) = world.kernel().running(cpu) else {
         return Ok(());
     };
-    let thread = text.thread(thread);
+    let thread = thread.index();
     let cpu = cpu.index();
     writeln!(
         text,
-        "Thread {thread} runs on CPU {cpu}: there is nothing to mend until it leaves."
+        "Thread t{thread} runs on CPU {cpu}: there is nothing to mend until it leaves."
     )
 }

@@ -10,7 +10,7 @@ use pc_policy::{OrderName, Policy, PolicyName};
 use std::fmt::{self, Write};
 
 /// All agents go by a policy.
-pub(super) fn ruled(text: &mut Sentences<'_>, policy: &PolicyName) -> fmt::Result {
+pub(super) fn ruled(text: &mut Sentences, policy: &PolicyName) -> fmt::Result {
     let order = match policy.order {
         OrderName::Levels => "the highest level runs first, and within a level who came first",
         OrderName::Fifo => "who came first runs first",
@@ -39,14 +39,14 @@ pub(super) fn ruled(text: &mut Sentences<'_>, policy: &PolicyName) -> fmt::Resul
 }
 
 /// A policy is refused: no call and no deed takes an event back.
-pub(super) fn refused(text: &mut Sentences<'_>, refusal: &Refusal) -> fmt::Result {
+pub(super) fn refused(text: &mut Sentences, refusal: &Refusal) -> fmt::Result {
     refusals::because(text, reason(*refusal))?;
     writeln!(text, "Nothing makes it accepted.")
 }
 
 /// Why a pick or a steal chose its thread, where agents go by another policy than without a line on it.
 pub(super) fn chosen(
-    text: &mut Sentences<'_>,
+    text: &mut Sentences,
     event: &Event,
     reply: &Reply,
     scene: &CommandContext<'_>,
@@ -77,7 +77,7 @@ pub(super) fn chosen(
 
 /// Which rank a thread has by what the CPU's agent knows.
 fn rank(
-    text: &mut Sentences<'_>,
+    text: &mut Sentences,
     policy: &PolicyName,
     cpu: Cpu,
     thread: Tid,
@@ -96,7 +96,7 @@ fn reported(cpu: Cpu, thread: Tid, scene: &CommandContext<'_>) -> Option<Reporte
 
 /// The rank of a thread of which this is known.
 fn rank_of(
-    text: &mut Sentences<'_>,
+    text: &mut Sentences,
     order: &OrderName,
     cpu: Cpu,
     thread: Tid,
@@ -130,7 +130,7 @@ fn rank_of(
 }
 
 /// Why a steal took its thread.
-fn stolen(text: &mut Sentences<'_>, policy: &PolicyName, cpu: Cpu) -> fmt::Result {
+fn stolen(text: &mut Sentences, policy: &PolicyName, cpu: Cpu) -> fmt::Result {
     let agent = cpu.index();
     if policy.exact {
         write!(text, "Of the threads that agent {agent} may take ")?;

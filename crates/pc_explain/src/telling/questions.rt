@@ -14,7 +14,7 @@ const MOST_SHOWN: usize = 4;
 
 /// What a question was answered.
 pub(super) fn answered(
-    text: &mut Sentences<'_>,
+    text: &mut Sentences,
     question: &Read,
     response: &Response,
     scene: &CommandContext<'_>,
@@ -52,20 +52,15 @@ pub(super) fn answered(
 }
 
 /// Whether an agent sleeps.
-fn slept(text: &mut Sentences<'_>, cpu: Cpu, sleeps: bool) -> fmt::Result {
+fn slept(text: &mut Sentences, cpu: Cpu, sleeps: bool) -> fmt::Result {
     let agent = cpu.index();
     let how = if sleeps { "sleeps" } else { "is awake" };
     writeln!(text, "Agent {agent} {how}.")
 }
 
 /// A thread's status word, and its phase.
-fn told_status(
-    text: &mut Sentences<'_>,
-    thread: Tid,
-    status: &Status,
-    phase: Phase,
-) -> fmt::Result {
-    let thread = text.thread(thread);
+fn told_status(text: &mut Sentences, thread: Tid, status: &Status, phase: Phase) -> fmt::Result {
+    let thread = thread.index();
     let messages = Count(u64::from(status.number), "message");
     let phase = phase.word();
     match status.running_on {
@@ -73,18 +68,18 @@ fn told_status(
             let cpu = cpu.index();
             writeln!(
                 text,
-                "Thread {thread} had {messages} so far, is {phase}, and runs on CPU {cpu}."
+                "Thread t{thread} had {messages} so far, is {phase}, and runs on CPU {cpu}."
             )
         }
         None => writeln!(
             text,
-            "Thread {thread} had {messages} so far, is {phase}, and runs nowhere."
+            "Thread t{thread} had {messages} so far, is {phase}, and runs nowhere."
         ),
     }
 }
 
 /// What an agent knows.
-fn shown(text: &mut Sentences<'_>, cpu: Cpu, threads: &ShownThreads) -> fmt::Result {
+fn shown(text: &mut Sentences, cpu: Cpu, threads: &ShownThreads) -> fmt::Result {
     let agent = cpu.index();
     let rows = threads.as_slice();
     if rows.is_empty() {
@@ -107,20 +102,20 @@ fn shown(text: &mut Sentences<'_>, cpu: Cpu, threads: &ShownThreads) -> fmt::Res
 }
 
 /// What an agent knows of a thread.
-fn shown_thread(text: &mut Sentences<'_>, row: &ShownThread) -> fmt::Result {
-    let thread = text.thread(row.thread);
+fn shown_thread(text: &mut Sentences, row: &ShownThread) -> fmt::Result {
+    let thread = row.thread.index();
     let upto = row.upto;
     match row.reported {
         Some(reported) => {
             let phase = reported.phase.word();
-            write!(text, " {thread} up to {upto} ({phase})")
+            write!(text, " t{thread} up to {upto} ({phase})")
         }
-        None => write!(text, " {thread} without its first"),
+        None => write!(text, " t{thread} without its first"),
     }
 }
 
 /// Whether two agents know the same.
-fn compared(text: &mut Sentences<'_>, cpu: Cpu, other: Cpu, same: bool) -> fmt::Result {
+fn compared(text: &mut Sentences, cpu: Cpu, other: Cpu, same: bool) -> fmt::Result {
     let one = cpu.index();
     let other = other.index();
     if same {
@@ -134,18 +129,18 @@ fn compared(text: &mut Sentences<'_>, cpu: Cpu, other: Cpu, same: bool) -> fmt::
 }
 
 /// Whether an agent knows all of a thread.
-fn completed(text: &mut Sentences<'_>, cpu: Cpu, thread: Tid, complete: bool) -> fmt::Result {
+fn completed(text: &mut Sentences, cpu: Cpu, thread: Tid, complete: bool) -> fmt::Result {
     let agent = cpu.index();
-    let thread = text.thread(thread);
+    let thread = thread.index();
     if complete {
         writeln!(
             text,
-            "Agent {agent} knows every message that thread {thread} had so far."
+            "Agent {agent} knows every message that thread t{thread} had so far."
         )
     } else {
         writeln!(
             text,
-            "Agent {agent} does not know every message of a thread {thread}."
+            "Agent {agent} does not know every message of a thread t{thread}."
         )
     }
 }

@@ -20,7 +20,7 @@ const NO_EXACT_STEAL: &str =
 
 /// A refusal of what a line asks for: why, how much there is of what it names, and what would make it accepted.
 pub(super) fn refused(
-    text: &mut Sentences<'_>,
+    text: &mut Sentences,
     deed: &Deed,
     refusal: &Refusal,
     scene: &CommandContext<'_>,
@@ -40,7 +40,7 @@ pub(super) fn refused(
 }
 
 /// Why it is refused.
-fn why(text: &mut Sentences<'_>, deed: &Deed, refusal: &Refusal) -> fmt::Result {
+fn why(text: &mut Sentences, deed: &Deed, refusal: &Refusal) -> fmt::Result {
     match (refusal, deed) {
         (
             Refusal::Stale(now),
@@ -58,12 +58,12 @@ fn why(text: &mut Sentences<'_>, deed: &Deed, refusal: &Refusal) -> fmt::Result 
 }
 
 /// That it is refused, and why.
-pub(super) fn because(text: &mut Sentences<'_>, reason: &str) -> fmt::Result {
+pub(super) fn because(text: &mut Sentences, reason: &str) -> fmt::Result {
     writeln!(text, "Refused: {reason}.")
 }
 
 /// A count of posts that is old.
-fn old_posts(text: &mut Sentences<'_>, cpu: Cpu, now: u32) -> fmt::Result {
+fn old_posts(text: &mut Sentences, cpu: Cpu, now: u32) -> fmt::Result {
     let queue = cpu.index();
     match now {
         0 => writeln!(
@@ -85,7 +85,7 @@ fn old_posts(text: &mut Sentences<'_>, cpu: Cpu, now: u32) -> fmt::Result {
 }
 
 /// Which thread a steal tried.
-fn tried(text: &mut Sentences<'_>, deed: &Deed, refusal: &Refusal, world: &World) -> fmt::Result {
+fn tried(text: &mut Sentences, deed: &Deed, refusal: &Refusal, world: &World) -> fmt::Result {
     let (Refusal::Stale(_) | Refusal::Pending | Refusal::Dead, Deed::Steal { cpu }) = (
         refusal, deed,
     ) else {
@@ -101,21 +101,21 @@ fn tried(text: &mut Sentences<'_>, deed: &Deed, refusal: &Refusal, world: &World
 }
 
 /// The thread that a steal tried, and what its agent knows of it.
-fn tried_thread(text: &mut Sentences<'_>, cpu: Cpu, thread: Tid, world: &World) -> fmt::Result {
+fn tried_thread(text: &mut Sentences, cpu: Cpu, thread: Tid, world: &World) -> fmt::Result {
     let upto = match world.view(cpu) {
         Some(view) => view.upto(thread),
         None => 0,
     };
     let agent = cpu.index();
-    let thread = text.thread(thread);
+    let thread = thread.index();
     writeln!(
         text,
-        "It tried thread {thread}, of which agent {agent} knows all messages up to {upto}."
+        "It tried thread t{thread}, of which agent {agent} knows all messages up to {upto}."
     )
 }
 
 /// How much there is of what was asked for, or where it is.
-pub(super) fn there_is(text: &mut Sentences<'_>, refusal: &Refusal, world: &World) -> fmt::Result {
+pub(super) fn there_is(text: &mut Sentences, refusal: &Refusal, world: &World) -> fmt::Result {
     match refusal {
         Refusal::Running(cpu) => runs_on(text, *cpu),
         Refusal::NotYours(queue) => is_at_home(text, *queue),
@@ -154,39 +154,39 @@ pub(super) fn there_is(text: &mut Sentences<'_>, refusal: &Refusal, world: &Worl
 }
 
 /// On which CPU the thread runs.
-fn runs_on(text: &mut Sentences<'_>, cpu: Cpu) -> fmt::Result {
+fn runs_on(text: &mut Sentences, cpu: Cpu) -> fmt::Result {
     let cpu = cpu.index();
     writeln!(text, "It runs on CPU {cpu}.")
 }
 
 /// Which queue is the thread's home.
-fn is_at_home(text: &mut Sentences<'_>, queue: Cpu) -> fmt::Result {
+fn is_at_home(text: &mut Sentences, queue: Cpu) -> fmt::Result {
     let queue = queue.index();
     writeln!(text, "Its messages go to queue {queue}.")
 }
 
 /// How many there are, and what the first is called.
-fn enclave_has(text: &mut Sentences<'_>, counted: Count, first: &str) -> fmt::Result {
+fn enclave_has(text: &mut Sentences, counted: Count, first: &str) -> fmt::Result {
     writeln!(text, "The enclave has {counted}, counted from {first}.")
 }
 
 /// Why a session answers no command, or not this one.
-fn closed(text: &mut Sentences<'_>, why: Closed) -> fmt::Result {
+fn closed(text: &mut Sentences, why: Closed) -> fmt::Result {
     because(text, why.reason())
 }
 
 /// There is no kernel yet.
-pub(super) fn no_enclave(text: &mut Sentences<'_>) -> fmt::Result {
+pub(super) fn no_enclave(text: &mut Sentences) -> fmt::Result {
     closed(text, Closed::NoEnclave)
 }
 
 /// There is a kernel already.
-pub(super) fn have_enclave(text: &mut Sentences<'_>) -> fmt::Result {
+pub(super) fn have_enclave(text: &mut Sentences) -> fmt::Result {
     closed(text, Closed::HaveEnclave)
 }
 
 /// A limit is out of its range.
-pub(super) fn bad_limits(text: &mut Sentences<'_>, limit: &LimitField) -> fmt::Result {
+pub(super) fn bad_limits(text: &mut Sentences, limit: &LimitField) -> fmt::Result {
     closed(text, Closed::BadLimits)?;
     match limit {
         LimitField::Cpus => writeln!(text, "CPUS is 1 to {MOST_CPUS}."),

@@ -8,7 +8,7 @@ use std::fmt::{self, Write};
 
 /// What would make a line accepted that was refused.
 pub(super) fn advised(
-    text: &mut Sentences<'_>,
+    text: &mut Sentences,
     world: &World,
     policy: &PolicyName,
     deed: &Deed,
@@ -22,7 +22,7 @@ pub(super) fn advised(
 }
 
 /// The steps, of which the last is the line itself.
-fn steps(text: &mut Sentences<'_>, plan: &Plan) -> fmt::Result {
+fn steps(text: &mut Sentences, plan: &Plan) -> fmt::Result {
     let mut before = if plan.needs_environment() {
         "No agent can make it accepted before the environment acts: "
     } else {

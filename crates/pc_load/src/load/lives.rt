@@ -1,11 +1,11 @@
 //! What threads do.
 
-ghost use Rattle.std.specs.Prelude.{◌≡◌, ◌≤◌, length, position, nat_le};
+ghost use Rattle.std.specs.Prelude.{◌≡◌, ◌≤◌, length, position, count_by};
 ghost use Rattle.std.specs.List.{list_all};
-ghost use Rattle.pc_load.specs.Loads.{are_sleeps, block_count, blocks, dies, dies_last, is_life, is_u32};
+ghost use Rattle.pc_load.specs.Loads.{are_sleeps, blocks, dies, dies_last, is_life, is_u32};
 
 use crate::load::numbers::is_u32;
-use crate::load::{LoadStep, MOST_STEPS, Waker};
+use crate::load::{LoadStep, MOST_STEPS};
 use pc_calls::Leaving;
 
 impl LoadStep {
@@ -50,7 +50,7 @@ pub(crate) fn is_life(steps: &[LoadStep]) -> bool
 
 /// How many steps are blocks.
 fn count_of_blocks(steps: &[LoadStep]) -> usize
-    ensures { result ≡ block_count steps.now }
+    ensures { result ≡ count_by (λ step. blocks step.leaving) steps.now }
 {
     steps.iter().filter(|step| step.blocks()).count()
 }
@@ -67,11 +67,4 @@ pub(crate) fn are_sleeps(steps: &[LoadStep], sleeps: &[i64]) -> bool
     ensures { result ≡ are_sleeps steps.now sleeps.now }
 {
     sleeps.len() <= count_of_blocks(steps) && are_u32s(sleeps)
-}
-
-/// Whether no more is told of who may wake a thread than there are blocks.
-pub(crate) fn are_wakers(steps: &[LoadStep], wakers: &[Vec<Waker>]) -> bool
-    ensures { result ≡ nat_le (length wakers.now) (block_count steps.now) }
-{
-    wakers.len() <= count_of_blocks(steps)
 }

@@ -44,12 +44,12 @@ pub fn is_cpu(cpus: u8, number: i64) -> bool
 }
 
 /// Whether the number is a mask of some of so many CPUs. It takes no memory.
-pub fn is_mask(cpus: u8, number: i128) -> bool
+pub fn is_mask(cpus: u8, number: i64) -> bool
     requires some { 1 ≤ cpus }
     requires few { cpus ≤ MOST_CPUS }
     ensures { result ≡ is_mask cpus number }
 {
-    0 < number && number <= u64::MAX as i128 && Mask::new(number as u64, cpus).is_ok()
+    0 < number && Mask::new(number as u64, cpus).is_ok()
 }
 
 /// Whether the number is low to high.
@@ -83,9 +83,8 @@ pub(crate) fn cpu_of(cpus: u8, number: i64) -> Cpu
 }
 
 /// The bits of a mask of so many CPUs.
-pub(crate) fn bits_of(cpus: u8, number: i128) -> u64
-    requires few { cpus ≤ MOST_CPUS }
-    requires there { is_mask cpus number ≡ true }
+pub(crate) fn bits_of(cpus: u8, number: i64) -> u64
+    requires { is_mask cpus number ≡ true }
     ensures { pos result ≡ number }
 {
     let _ = cpus;

@@ -6,15 +6,14 @@ ghost use Rattle.std.specs.List.{list_all};
 ghost use Rattle.pc_messages.specs.Mask.{allows};
 ghost use Rattle.pc_calls.specs.Conditions.{first_of};
 ghost use Rattle.pc_calls.specs.declared.limits.TheConstants.{MOST_CPUS};
-ghost use Rattle.pc_load.specs.Loads.{drafted, is_label, is_load, is_played, is_recorded, is_thread, is_u32};
-ghost use Rattle.pc_load.specs.Loads.{need_of, thread_faults};
+ghost use Rattle.pc_load.specs.Loads.{drafted, is_load, is_thread, is_u32, need_of, thread_faults};
 ghost use Rattle.pc_load.specs.declared.load.LoadFault.TheVariants.{BadThread, BadLoad, OutOfMemory};
 
-use crate::load::lives::{are_sleeps, are_wakers, is_life};
+use crate::load::lives::{are_sleeps, is_life};
 use crate::load::numbers::{
     bits_of, cpu_of, is_between, is_cpu, is_mask, is_u32, level_of, u32_of,
 };
-use crate::load::{LoadFault, MOST_LABEL, MOST_LEVEL, ThreadDraft, ThreadLoad};
+use crate::load::{LoadFault, MOST_LEVEL, ThreadDraft, ThreadLoad};
 use std::alloc::{AllocError, Global};
 
 /// Whether a thread can be created so on so many CPUs, and lives.
@@ -32,46 +31,20 @@ fn is_at_home(cpus: u8, draft: &ThreadDraft) -> bool
     requires there { is_thread cpus (drafted draft.now) ≡ true }
     ensures { result ≡ allows (nat_abs draft.now.mask) (nat_abs draft.now.queue) }
 {
-    (bits_of(cpus, draft.mask) >> draft.queue) % 2 == 1
+    (draft.mask as u64 >> draft.queue) % 2 == 1
 }
 
 /// Whether a thread of so many CPUs may run at home, does not come before the one in front of it, and has a level and
 /// sleeps.
-fn is_played(cpus: u8, before: u32, draft: &ThreadDraft) -> bool
-    requires few { cpus ≤ MOST_CPUS }
-    requires there { is_thread cpus (drafted draft.now) ≡ true }
-    ensures { result ≡ is_played (pos before) (drafted draft.now) }
-{
-    is_at_home(cpus, draft)
-        && (before as i64 <= draft.start && is_u32(draft.start))
-        && is_between(0, MOST_LEVEL as u32, draft.level)
-        && are_sleeps(draft.steps.as_slice(), draft.sleeps.as_slice())
-}
-
-/// Whether the text is short enough for a name or a group.
-fn is_label(text: &str) -> bool
-    ensures { result ≡ is_label text.now }
-{
-    text.len() <= MOST_LABEL
-}
-
-/// Whether what was recorded of a thread can be: its name, its number, its group, and who may wake it.
-fn is_recorded(draft: &ThreadDraft) -> bool
-    ensures { result ≡ is_recorded (drafted draft.now) }
-{
-    is_label(draft.name.as_str())
-        && is_u32(draft.pid)
-        && is_label(draft.group.as_str())
-        && are_wakers(draft.steps.as_slice(), draft.wakers.as_slice())
-}
-
-/// Whether a thread can be played, and what was recorded of it can be.
 fn is_load(cpus: u8, before: u32, draft: &ThreadDraft) -> bool
     requires few { cpus ≤ MOST_CPUS }
     requires there { is_thread cpus (drafted draft.now) ≡ true }
     ensures { result ≡ is_load (pos before) (drafted draft.now) }
 {
-    is_played(cpus, before, draft) && is_recorded(draft)
+    is_at_home(cpus, draft)
+        && (before as i64 <= draft.start && is_u32(draft.start))
+        && is_between(0, MOST_LEVEL as u32, draft.level)
+        && are_sleeps(draft.steps.as_slice(), draft.sleeps.as_slice())
 }
 
 /// The sleeps as u32s.
@@ -119,10 +92,6 @@ fn thread_of(
         start: u32_of(draft.start),
         level: level_of(draft.level),
         sleeps,
-        name: draft.name,
-        pid: u32_of(draft.pid),
-        group: draft.group,
-        wakers: draft.wakers,
     })
 }
 

@@ -4,7 +4,7 @@ use Rattle.std.specs.Option.{option_map_or}
 use Rattle.std.specs.Str.{bytes_eq}
 use Rattle.clap.specs.Simple.{App}
 use Rattle.clap.specs.Walk.{Text}
-use Rattle.pc_program.specs.CommandLine.{drawing, importing, lab, of_file, only, pc_sim, run, session}
+use Rattle.pc_program.specs.CommandLine.{drawing, lab, of_file, only, pc_sim, run, session}
 use Rattle.pc_program.specs.declared.command_line.parsers.Subcommand.{Subcommand}
 use Rattle.pc_program.specs.declared.command_line.parsers.Subcommand.TheVariants as command
 
@@ -21,7 +21,6 @@ parser_of command.Draw = drawing
 parser_of command.Run = run
 parser_of command.Session = session
 parser_of command.Lab = lab
-parser_of command.Import = importing
 
 -- the parser of the command that a word names, if it names one
 abbrev pub named : Text → Option App
@@ -31,8 +30,7 @@ named word =
     else (if bytes_eq word (codes "draw") then Some drawing
     else (if bytes_eq word (codes "run") then Some run
     else (if bytes_eq word (codes "session") then Some session
-    else (if bytes_eq word (codes "lab") then Some lab
-    else (if bytes_eq word (codes "import") then Some importing else None))))))
+    else (if bytes_eq word (codes "lab") then Some lab else None)))))
 
 -- the program with the command alone that a word names, or with all where it names none
 abbrev pub program_for : Text → App

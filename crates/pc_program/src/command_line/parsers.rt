@@ -6,8 +6,8 @@
 ghost use Rattle.std.specs.Prelude.{◌≡◌, IfOk, codes, false, option_map};
 ghost use Rattle.clap.specs.Walk.{rule_of};
 ghost use Rattle.clap.specs.Simple.{app_of, with_rule, with_subcommand};
-ghost use Rattle.pc_program.specs.CommandLine.{counted_flag, drawing, flag, importing, lab, limit, most, of_file};
-ghost use Rattle.pc_program.specs.CommandLine.{option, pc_sim, program, run, runs, seed, session};
+ghost use Rattle.pc_program.specs.CommandLine.{counted_flag, drawing, flag, lab, limit, of_file, option, pc_sim};
+ghost use Rattle.pc_program.specs.CommandLine.{program, run, runs, seed, session};
 ghost use Rattle.pc_program.specs.Inner.FirstWord.{named, parser_of, program_for};
 
 use super::{MOST_RUNS, VERSION};
@@ -27,7 +27,6 @@ Examples:
   pc-sim run settings.toml --script run.script
   pc-sim session
   pc-sim lab load.toml --variants examples/lab/variants.toml
-  pc-sim import recording.txt --load load.toml
 
 FILE may be `-`, the standard input. `pc-sim help COMMAND` tells more of a command.
 Exit status: 0 finished; 1 a file or a text has a fault; 2 the command line has one; 3 a run did not
@@ -109,59 +108,10 @@ Examples:
   pc-sim lab load.toml --picture >waits.svg
   pc-sim lab load.toml --script fifo | pc-sim explain
 
-Where --script stands, --picture, --per-cpu, --by-group and --csv change nothing; where --picture stands,
-these three.
+Where --script stands, --picture, --per-cpu and --csv change nothing; where --picture stands, these two.
 Exit status: 0 finished; 1 the load or the variants have a fault, or a read or a write failed; 4 memory
 is wanting.
 Loads, variants and the table are described in docs/LAB.md.";
-
-const ABOUT_IMPORT: &str =
-    "Turns a recording of the Linux scheduler into a script, a load, settings, and what was waited";
-
-const AFTER_IMPORT: &str = "\
-Examples:
-  perf sched record -m 8192 -o perf.data -- COMMAND
-  perf sched script --show-lost-events -i perf.data | pc-sim import --load load.toml --script made.script
-
-The text is that of `perf sched script`, of `perf script`, of `trace-cmd report` or of the kernel's own tracing
-file. Nothing is written but what is asked for; where a name is `-`, on standard output. A file is put in its
-place when it is whole. Standard error tells what was read, what was left out and what was put in.
-NUMBERS are two with `-` between, of which the second is not below the first, or one.
-Exit status: 0 finished; 1 a line is no event, or a read or a write failed; 2 there are no such CPUs, or more
-than 64; 4 memory is wanting.
-What becomes of each event is described in docs/RECORDINGS.md.";
-
-const RECORDING: &str =
-    "the recording; without it, and where it is `-`, the standard input is read";
-
-const MAKES_SCRIPT: &str = "writes it as a script into this file";
-
-const MAKES_LOAD: &str = "writes it as a load of the lab into this file";
-
-const MAKES_SETTINGS: &str = "writes it as settings of a run into this file";
-
-const MAKES_WAITS: &str =
-    "writes how long threads waited, as a table of the lab tells it, into this file";
-
-const TELLS_TIMES: &str =
-    "tells in the script, by comments `# at N`, the microseconds behind the first event";
-
-const KERNEL_THREADS: &str = "tells of the kernel's own threads, too";
-
-const TOLD_CPUS: &str = "tells of these CPUs alone, counted from 0, and numbers them anew";
-
-const TOLD_TIME: &str =
-    "tells in loads and waits these microseconds behind the first event, and not those in which all CPUs are recorded";
-
-const ALL_TIME: &str = "tells all time in loads and waits";
-
-const TOLD_GROUPS: &str =
-    "groups the threads of a load: comm, by their names; pid, by their numbers; or a list of REGEX=NAME";
-
-const TOLD_LEVELS: &str =
-    "the levels of a load: a list of PRIORITY=LEVEL, up to which priority a thread has which; or none";
-
-const FIRST_EVENTS: &str = "reads so many events at most (0 to 18446744073709551615)";
 
 const LOAD: &str = "the load; without it, and where it is `-`, the standard input is read";
 
@@ -169,9 +119,6 @@ const VARIANTS: &str =
     "tries the variants of this text in place of the load's own; `-` is the standard input";
 
 const EACH_CPU: &str = "also tells where the time of each CPU went";
-
-const EACH_GROUP: &str =
-    "also tells how long the threads of each group waited, and how long they ran";
 
 const CSV: &str = "writes the table on its side, with all percentiles, for other tools";
 
@@ -213,7 +160,7 @@ const REPORTS_CPUS: &str = "also reports a line for each CPU; twice, with its re
 const DRAWS: &str = "draws the report, as SVG";
 
 /// The words that name a command.
-pub(crate) const FIRST_WORDS: &str = "replay, explain, draw, run, session, lab or import";
+pub(crate) const FIRST_WORDS: &str = "replay, explain, draw, run, session or lab";
 
 /// A command of the program.
 #[derive(Clone, Copy)]
@@ -224,7 +171,6 @@ pub(crate) enum Subcommand {
     Run,
     Session,
     Lab,
-    Import,
 }
 
 /// The program's parser for a command line with this first word: with the command that it names alone, or with all
@@ -255,8 +201,6 @@ pub(crate) fn command_named(word: &str) -> Option<Subcommand>
         Some(Subcommand::Session)
     } else if word == "lab" {
         Some(Subcommand::Lab)
-    } else if word == "import" {
-        Some(Subcommand::Import)
     } else {
         None
     }
@@ -270,8 +214,7 @@ fn whole_parser<'a>(alloc: Global) -> Result<Parser<'a>, AllocError>
     let parser = with_script_commands(program_parser(alloc), alloc)?;
     let parser = with_command(parser, alloc, Subcommand::Run)?;
     let parser = with_command(parser, alloc, Subcommand::Session)?;
-    let parser = with_command(parser, alloc, Subcommand::Lab)?;
-    with_command(parser, alloc, Subcommand::Import)
+    with_command(parser, alloc, Subcommand::Lab)
 }
 
 /// Adds the commands that go through a script.
@@ -323,7 +266,6 @@ fn command_parser<'a>(alloc: Global, command: Subcommand) -> Result<Parser<'a>, 
         Subcommand::Run => run_parser(alloc),
         Subcommand::Session => session_parser(alloc),
         Subcommand::Lab => lab_parser(alloc),
-        Subcommand::Import => import_parser(alloc),
     }
 }
 
@@ -396,7 +338,7 @@ fn session_parser<'a>(alloc: Global) -> Result<Parser<'a>, AllocError>
     with_flag(parser, alloc, "explain", EXPLAINS)
 }
 
-/// `lab [FILE] [--variants FILE] [--per-cpu] [--by-group] [--csv] [--picture] [--script NAME]`
+/// `lab [FILE] [--variants FILE] [--per-cpu] [--csv] [--picture] [--script NAME]`
 #[inline(never)]
 fn lab_parser<'a>(alloc: Global) -> Result<Parser<'a>, AllocError>
     ensures { IfOk result (λ parser. app_of parser ≡ lab) }
@@ -407,58 +349,15 @@ fn lab_parser<'a>(alloc: Global) -> Result<Parser<'a>, AllocError>
     with_option(parser, alloc, "script", "NAME", SCRIPT_OF)
 }
 
-/// Adds `[--per-cpu] [--by-group] [--csv] [--picture]`, by which a comparison of the lab is told.
+/// Adds `[--per-cpu] [--csv] [--picture]`, by which a comparison of the lab is told.
 #[inline(never)]
 fn with_table_forms<'a>(parser: Parser<'a>, alloc: Global) -> Result<Parser<'a>, AllocError>
-    ensures { IfOk result (λ more. app_of more ≡ with_rule (with_rule (with_rule
-        (with_rule (app_of parser.entry) (flag (codes "per-cpu"))) (flag (codes "by-group"))) (flag (codes "csv")))
-        (flag (codes "picture"))) }
+    ensures { IfOk result (λ more. app_of more ≡ with_rule (with_rule
+        (with_rule (app_of parser.entry) (flag (codes "per-cpu"))) (flag (codes "csv"))) (flag (codes "picture"))) }
 {
     let parser = with_flag(parser, alloc, "per-cpu", EACH_CPU)?;
-    let parser = with_flag(parser, alloc, "by-group", EACH_GROUP)?;
     let parser = with_flag(parser, alloc, "csv", CSV)?;
     with_flag(parser, alloc, "picture", WAITS)
-}
-
-/// `import [FILE]`, the four options of files, `[--times] [--kernel-threads] [--cpus NUMBERS]`, the four of what a load
-/// tells, and `[--limit NUMBER]`
-#[inline(never)]
-fn import_parser<'a>(alloc: Global) -> Result<Parser<'a>, AllocError>
-    ensures { IfOk result (λ parser. app_of parser ≡ importing) }
-{
-    let parser = parser_of_file(alloc, "import", RECORDING, ABOUT_IMPORT, AFTER_IMPORT)?;
-    let parser = with_made_files(parser, alloc)?;
-    let parser = with_flag(parser, alloc, "times", TELLS_TIMES)?;
-    let parser = with_flag(parser, alloc, "kernel-threads", KERNEL_THREADS)?;
-    let parser = with_option(parser, alloc, "cpus", "NUMBERS", TOLD_CPUS)?;
-    let parser = with_told_load(parser, alloc)?;
-    with_most(parser, alloc)
-}
-
-/// Adds `[--window NUMBERS] [--all] [--group-by GROUPS] [--levels LEVELS]`, of what a load tells.
-#[inline(never)]
-fn with_told_load<'a>(parser: Parser<'a>, alloc: Global) -> Result<Parser<'a>, AllocError>
-    ensures { IfOk result (λ more. app_of more ≡ with_rule (with_rule (with_rule
-        (with_rule (app_of parser.entry) (option (codes "window"))) (flag (codes "all")))
-        (option (codes "group-by"))) (option (codes "levels"))) }
-{
-    let parser = with_option(parser, alloc, "window", "NUMBERS", TOLD_TIME)?;
-    let parser = with_flag(parser, alloc, "all", ALL_TIME)?;
-    let parser = with_option(parser, alloc, "group-by", "GROUPS", TOLD_GROUPS)?;
-    with_option(parser, alloc, "levels", "LEVELS", TOLD_LEVELS)
-}
-
-/// Adds `[--script FILE] [--load FILE] [--settings FILE] [--waits FILE]`, into which a recording is written.
-#[inline(never)]
-fn with_made_files<'a>(parser: Parser<'a>, alloc: Global) -> Result<Parser<'a>, AllocError>
-    ensures { IfOk result (λ more. app_of more ≡ with_rule (with_rule (with_rule
-        (with_rule (app_of parser.entry) (option (codes "script"))) (option (codes "load")))
-        (option (codes "settings"))) (option (codes "waits"))) }
-{
-    let parser = with_option(parser, alloc, "script", "FILE", MAKES_SCRIPT)?;
-    let parser = with_option(parser, alloc, "load", "FILE", MAKES_LOAD)?;
-    let parser = with_option(parser, alloc, "settings", "FILE", MAKES_SETTINGS)?;
-    with_option(parser, alloc, "waits", "FILE", MAKES_WAITS)
 }
 
 /// The parser of `NAME [FILE]`; `file` tells what FILE is, `about` what the command does, and `after` stands behind its
@@ -528,14 +427,6 @@ fn with_limit<'a>(parser: Parser<'a>, alloc: Global) -> Result<Parser<'a>, Alloc
     parser.arg(limit_option(alloc))
 }
 
-/// Adds the option `--limit NUMBER`, of what is read.
-#[inline(never)]
-fn with_most<'a>(parser: Parser<'a>, alloc: Global) -> Result<Parser<'a>, AllocError>
-    ensures { IfOk result (λ more. app_of more ≡ with_rule (app_of parser.entry) most) }
-{
-    parser.arg(most_option(alloc))
-}
-
 /// Adds the option `--seed NUMBER`.
 #[inline(never)]
 fn with_seed<'a>(parser: Parser<'a>, alloc: Global) -> Result<Parser<'a>, AllocError>
@@ -599,17 +490,6 @@ fn limit_option<'a>(alloc: Global) -> Arg<'a>
     option_of(alloc, "limit", "SECONDS", LIMIT).value_parser(ValueParser::Unsigned(
         0,
         u32::MAX as u64,
-    ))
-}
-
-/// The option `--limit NUMBER`, of what is read.
-fn most_option<'a>(alloc: Global) -> Arg<'a>
-    ensures rule { rule_of result ≡ most }
-    ensures local { result.global ≡ false }
-{
-    option_of(alloc, "limit", "NUMBER", FIRST_EVENTS).value_parser(ValueParser::Unsigned(
-        0,
-        u64::MAX,
     ))
 }
 

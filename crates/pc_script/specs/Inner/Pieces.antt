@@ -1,7 +1,8 @@
 -- A text that comes in pieces.
-use Rattle.std.specs.Prelude.{◌≡◌, ◌==◌, ◌+◌, ◌<◌, ℕ, Bool, true, false, List, [], ◌∷◌, ◌++◌, All, length}
+use Rattle.std.specs.Prelude.{◌≡◌, ◌==◌, ◌+◌, ◌<◌, ℕ, Bool, true, false, List, [], ◌∷◌, ◌++◌, All, length, take}
 use Rattle.std.specs.Str.Lines.{strip_carriage_return}
 use Rattle.pc_script.specs.Text.{lines}
+use Rattle.pc_script.specs.declared.piece.Piece.{Piece}
 use Rattle.pc_script.specs.declared.session.TheConstants.{MOST_LINE}
 
 -- no byte of it is a line feed
@@ -21,3 +22,7 @@ IsCut text taken rest = (more : List ℕ) → lines (text ++ more) ≡ taken ++ 
 abbrev pub IsPassed : Bool → List ℕ → Type 0
 IsPassed false passed = passed ≡ []
 IsPassed true passed = IsUnbroken passed × (MOST_LINE + 1 < length passed)
+
+-- the bytes of a piece
+abbrev pub bytes_of : Piece → List ℕ
+bytes_of piece = take piece.len piece.bytes

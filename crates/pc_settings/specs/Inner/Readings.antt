@@ -9,7 +9,7 @@ use Rattle.pc_threads.specs.declared.settings.plans.Step.{Step}
 use Rattle.pc_settings.specs.Keys.{integer_at, tables_at}
 use Rattle.pc_settings.specs.SettingsText.{integer_in, restart_faults, restart_in, texts_in, thread_faults}
 use Rattle.pc_settings.specs.Steps.{read_run_step}
-use Rattle.pc_settings.specs.Inner.RunKeys.{Told}
+use Rattle.pc_settings.specs.Inner.SharedKeys.{Told}
 use Rattle.pc_settings.specs.declared.field.Field.TheVariants as field
 use Rattle.pc_settings.specs.declared.runs.SettingsFault.{SettingsFault}
 use Rattle.pc_settings.specs.declared.runs.SettingsFault.TheVariants.{BadField, BadStep, BadConfig, OutOfMemory}

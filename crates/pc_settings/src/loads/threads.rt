@@ -2,73 +2,42 @@
 
 ghost use Rattle.std.specs.Prelude.{◌≡◌, ℤ, pos, true, map, filter_map, IfOk, IsSome};
 ghost use Rattle.toml.specs.Data.{as_integer, as_table};
-ghost use Rattle.toml.specs.View.{table_view, view};
+ghost use Rattle.toml.specs.View.{view};
 ghost use Rattle.pc_load.specs.Loads.{drafted};
 ghost use Rattle.pc_settings.specs.Keys.{of_each};
 ghost use Rattle.pc_settings.specs.Steps.{read_step};
-ghost use Rattle.pc_settings.specs.LoadTexts.{IsRead, need_told, plan_faults, plan_in, recorded_faults};
-ghost use Rattle.pc_settings.specs.LoadTexts.{recorded_in, step_faults, text_fault, thread_faults, told_in};
-ghost use Rattle.pc_settings.specs.Inner.Drafts.{plan_told, recorded_told, told};
+ghost use Rattle.pc_settings.specs.LoadTexts.{IsRead, need_told, step_faults, text_fault, thread_faults, told_in};
+ghost use Rattle.pc_settings.specs.Inner.Drafts.{told};
 ghost use Rattle.pc_settings.specs.Inner.Values.{are_integers, are_tables, are_texts, integer_in, table_in, text_in};
 
 use crate::field::Field;
-use crate::keys::{integer_at, integer_or, integers_at, mask_at, text_or, texts_at};
+use crate::keys::{integer_or, integers_at};
 use crate::loads::LoadTextFault;
-use crate::loads::draft::{Draft, PlanKeys, RecordedKeys};
+use crate::loads::draft::Draft;
+use crate::shared_keys::ThreadKeys;
 use crate::steps::step_in;
-use crate::wakings::wakers_at;
 use pc_load::{LoadStep, ThreadDraft};
 use std::alloc::{AllocError, Global};
-use toml::{Table, Value};
-
-/// What the table of a thread tells of what it does.
-fn plan_of<'a>(table: &'a Table) -> Result<PlanKeys<'a>, LoadTextFault>
-    ensures { IsRead (plan_faults (table_view table.now)) (plan_in (table_view table.now)) plan_told result }
-{
-    let queue = integer_at(table, Field::Queue).ok_or(Field::Queue)?;
-    let mask = mask_at(table, Field::Mask).ok_or(Field::Mask)?;
-    let texts = texts_at(table, Field::Steps).ok_or(Field::Steps)?;
-    let start = integer_or(0, table, Field::Start).ok_or(Field::Start)?;
-    let level = integer_or(0, table, Field::Level).ok_or(Field::Level)?;
-    let sleeps = integers_at(table, Field::Sleeps).ok_or(Field::Sleeps)?;
-    Ok(PlanKeys {
-        queue,
-        mask,
-        texts,
-        start,
-        level,
-        sleeps,
-    })
-}
-
-/// What the table of a thread tells of what was recorded of it.
-fn recorded_of<'a>(alloc: Global, table: &'a Table) -> Result<RecordedKeys<'a>, LoadTextFault>
-    ensures { IsRead (recorded_faults (table_view table.now)) (recorded_in (table_view table.now)) recorded_told
-        result }
-{
-    let name = text_or("", table, Field::ThreadName).ok_or(Field::ThreadName)?;
-    let pid = integer_or(0, table, Field::Pid).ok_or(Field::Pid)?;
-    let group = text_or(name, table, Field::ThreadGroup).ok_or(Field::ThreadGroup)?;
-    let wakers = wakers_at(alloc, table, Field::Wakers)?.ok_or(Field::Wakers)?;
-    Ok(RecordedKeys {
-        name,
-        pid,
-        group,
-        wakers,
-    })
-}
+use toml::Value;
 
 /// The thread that a table tells of.
-fn draft_of(alloc: Global, item: &Value) -> Result<Draft<'_>, LoadTextFault>
+fn draft_of(item: &Value) -> Result<Draft<'_>, LoadTextFault>
     requires { IsSome (as_table (view item.now)) }
     ensures { IsRead (thread_faults (table_in item.now)) (told_in (table_in item.now)) told result }
 {
     let Some(table) = item.as_table() else {
         unreachable!()
     };
-    let plan = plan_of(table)?;
-    let recorded = recorded_of(alloc, table)?;
-    Ok(Draft { plan, recorded })
+    let keys = ThreadKeys::of(table)?;
+    let start = integer_or(0, table, Field::Start).ok_or(Field::Start)?;
+    let level = integer_or(0, table, Field::Level).ok_or(Field::Level)?;
+    let sleeps = integers_at(table, Field::Sleeps).ok_or(Field::Sleeps)?;
+    Ok(Draft {
+        keys,
+        start,
+        level,
+        sleeps,
+    })
 }
 
 /// The threads as their keys tell them.
@@ -82,7 +51,7 @@ pub(crate) fn drafts_of<'a>(
 {
     let mut drafts = Vec::new(alloc);
     for item in items {
-        drafts.push(draft_of(alloc, item)?)?;
+        drafts.push(draft_of(item)?)?;
     }
     Ok(drafts)
 }
@@ -127,40 +96,32 @@ fn integers_of(alloc: Global, items: &[Value]) -> Result<Vec<i64>, AllocError>
 }
 
 /// The thread at this place with its steps.
-fn thread_of(alloc: Global, thread: usize, draft: Draft<'_>) -> Result<ThreadDraft, LoadTextFault>
-    ensures { IsRead (step_faults thread (told draft.entry)) (need_told (told draft.entry)) drafted result }
+fn plan_of(alloc: Global, thread: usize, draft: &Draft<'_>) -> Result<ThreadDraft, LoadTextFault>
+    ensures { IsRead (step_faults thread (told draft.now)) (need_told (told draft.now)) drafted result }
 {
-    let Draft { plan, recorded } = draft;
-    let steps = steps_of(alloc, thread, plan.texts)?;
-    let sleeps = integers_of(alloc, plan.sleeps)?;
-    let name = String::from_str(alloc, recorded.name)?;
-    let group = String::from_str(alloc, recorded.group)?;
+    let steps = steps_of(alloc, thread, draft.keys.texts)?;
+    let sleeps = integers_of(alloc, draft.sleeps)?;
     Ok(ThreadDraft {
-        queue: plan.queue,
-        mask: plan.mask,
+        queue: draft.keys.queue,
+        mask: draft.keys.mask,
         steps,
-        start: plan.start,
-        level: plan.level,
+        start: draft.start,
+        level: draft.level,
         sleeps,
-        name,
-        pid: recorded.pid,
-        group,
-        wakers: recorded.wakers,
     })
 }
 
 /// The threads with their steps.
 pub(crate) fn plans_of(
     alloc: Global,
-    drafts: Vec<Draft<'_>>,
+    drafts: &[Draft<'_>],
 ) -> Result<Vec<ThreadDraft>, LoadTextFault>
-    ensures { IsRead (of_each step_faults 0 (map told drafts.entry.items))
-        (map need_told (map told drafts.entry.items)) (λ plans. map drafted plans.items) result }
+    ensures { IsRead (of_each step_faults 0 (map told drafts.now))
+        (map need_told (map told drafts.now)) (λ plans. map drafted plans.items) result }
 {
     let mut plans = Vec::new(alloc);
-    for draft in drafts {
-        let plan = thread_of(alloc, plans.len(), draft)?;
-        plans.push(plan)?;
+    for (thread, draft) in drafts.iter().enumerate() {
+        plans.push(plan_of(alloc, thread, draft)?)?;
     }
     Ok(plans)
 }

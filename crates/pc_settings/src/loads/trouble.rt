@@ -3,15 +3,14 @@
 ghost use Rattle.std.specs.Prelude.{◌≡◌};
 ghost use Rattle.pc_settings.specs.declared.loads.LoadTextFault.TheVariants.{OutOfMemory};
 
-mod recorded;
-
 use crate::field::Field;
-use crate::keys::{integer_at, integer_or, items_at, mask_at, text_at, text_or};
+use crate::keys::{integer_at, integer_or, items_at, text_at, text_or};
 use crate::loads::LoadTextFault;
 use crate::trouble::{
-    MaskWords, cpus_in, table_at, write_cpus, write_field, write_no_toml, write_step, write_thread,
-    write_threads,
+    cpus_in, is_leaving, table_at, write_cpus, write_field, write_no_toml, write_step,
+    write_thread, write_threads,
 };
+use pc_calls::Leaving;
 use pc_load::{
     LAST_TICK, LoadFault, MOST_GROUP, MOST_LEVEL, MOST_NAME, MOST_STEPS, MOST_VARIANTS,
     VariantDraft, VariantFault, Variants, count_of_cpus,
@@ -20,7 +19,6 @@ use pc_messages::{Cpu, Mask};
 use pc_pen::QuotedWord;
 use pc_policy::{OrderFault, OrderName, PolicyName, Stealing};
 use pc_script::Orders;
-use recorded::{blocks_in, write_count, write_mask, write_recorded, write_wakers};
 use std::alloc::Global;
 use std::io::{self, Write};
 use toml::Table;
@@ -57,8 +55,6 @@ fn write_fault<W: Write>(
     writer: &mut W,
 ) -> io::Result<()> {
     match *fault {
-        LoadTextFault::BadField(Field::Mask) => write_mask(table, writer),
-        LoadTextFault::BadField(Field::Wakers) => write_wakers(alloc, table, writer),
         LoadTextFault::BadField(field) => write_field(table, field, writer),
         LoadTextFault::BadStep { thread, step } => write_step(table, thread, step, writer),
         LoadTextFault::BadLoad(fault) => write_load(table, fault, writer),
@@ -105,7 +101,7 @@ fn start_at(table: &Table, place: Option<usize>) -> i64 {
 
 /// Whether the thread may run on the CPU of its queue.
 fn is_at_home(table: &Table, thread: &Table) -> bool {
-    let mask = mask_at(thread, Field::Mask).unwrap_or(0);
+    let mask = integer_at(thread, Field::Mask).unwrap_or(0);
     let queue = integer_at(thread, Field::Queue).unwrap_or(0);
     let Some(cpus) = count_of_cpus(cpus_in(table)) else {
         return false;
@@ -119,21 +115,6 @@ fn is_at_home(table: &Table, thread: &Table) -> bool {
     }
 }
 
-/// Which CPU a thread's mask lacks.
-fn write_home<W: Write>(thread: &Table, writer: &mut W) -> io::Result<()> {
-    let mask = MaskWords::at(thread);
-    let queue = integer_at(thread, Field::Queue).unwrap_or(0);
-    write!(
-        writer,
-        "mask {mask}: CPU {queue}, which has its queue, is to be one of its CPUs"
-    )?;
-    if let MaskWords::Number(_) = mask {
-        let bit = 1u64.wrapping_shl(u32::try_from(queue).unwrap_or(0));
-        write!(writer, ": add {bit}")?;
-    }
-    writeln!(writer)
-}
-
 /// What is wrong with where and when a thread comes, or with what it does then.
 fn write_coming<W: Write>(
     table: &Table,
@@ -143,7 +124,13 @@ fn write_coming<W: Write>(
 ) -> io::Result<()> {
     write!(writer, "thread {place}: ")?;
     if !is_at_home(table, thread) {
-        return write_home(thread, writer);
+        let mask = integer_at(thread, Field::Mask).unwrap_or(0);
+        let queue = integer_at(thread, Field::Queue).unwrap_or(0);
+        let bit = 1u64.wrapping_shl(u32::try_from(queue).unwrap_or(0));
+        return writeln!(
+            writer,
+            "mask {mask}: CPU {queue}, which has its queue, is to be one of its CPUs: add {bit}"
+        );
     }
     let start = start_at(table, Some(place));
     if !is_ticks(start) {
@@ -164,7 +151,7 @@ fn write_coming<W: Write>(
 }
 
 /// Whether so many ticks can be told.
-pub(crate) fn is_ticks(number: i64) -> bool {
+fn is_ticks(number: i64) -> bool {
     0 <= number && number <= u32::MAX as i64
 }
 
@@ -181,10 +168,15 @@ fn write_sleeps<W: Write>(thread: &Table, writer: &mut W) -> io::Result<()> {
             );
         }
     }
-    if blocks_in(thread) < sleeps.len() {
-        return write_count(thread, Field::Sleeps, writer);
-    }
-    write_recorded(thread, writer)
+    let sleeps = sleeps.len();
+    let blocks = items_at(thread, Field::Steps)
+        .iter()
+        .filter(|step| is_leaving(step, Leaving::Block))
+        .count();
+    writeln!(
+        writer,
+        "sleeps: {sleeps} of them are there, and {blocks} blocks: at most one for each is wanted"
+    )
 }
 
 /// Whether the name may be one.

@@ -4,13 +4,13 @@ ghost use Rattle.std.specs.Prelude.{IsSome};
 ghost use Rattle.toml.specs.Data.{as_table};
 ghost use Rattle.toml.specs.View.{view};
 ghost use Rattle.pc_settings.specs.Inner.Readings.{Follows, read_draft, read_restart};
-ghost use Rattle.pc_settings.specs.Inner.RunKeys.{told};
+ghost use Rattle.pc_settings.specs.Inner.SharedKeys.{told};
 ghost use Rattle.pc_settings.specs.Inner.Values.{table_in};
 
 use super::SettingsFault;
-use super::thread_keys::ThreadKeys;
 use crate::field::Field;
 use crate::keys::integer_at;
+use crate::shared_keys::ThreadKeys;
 use pc_threads::Restart;
 use toml::Value;
 

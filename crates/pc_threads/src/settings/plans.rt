@@ -79,7 +79,7 @@ fn is_thread(cpus: u8, plan: &ThreadPlan) -> bool
     requires few { cpus ≤ MOST_CPUS }
     ensures { result ≡ is_thread cpus (plan_of plan.now) }
 {
-    is_cpu(cpus, plan.queue) && is_mask(cpus, plan.mask as i128) && is_life(plan.steps.as_slice())
+    is_cpu(cpus, plan.queue) && is_mask(cpus, plan.mask) && is_life(plan.steps.as_slice())
 }
 
 /// The place of the first thread that cannot be asked for.

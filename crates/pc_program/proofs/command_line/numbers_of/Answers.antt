@@ -22,4 +22,4 @@ returns-in_ok-word-in-None-clause-wrong c =
     let copied : string_bytes c.in_ok-word-in-None.word ≡ c.in-Some.word.now = search rules in
     let given : Some c.in-Some.word.now ≡ first_value (found_of c.args.matches.now) c.args.option.now = search rules in
     let none : SpellsNone c.in-Some.word.now = subst SpellsNone c.as_bytes.ensures.value c.in-None.ensures in
-    (refl, (sym (given ∙ first_value-rows (found_of c.args.matches.now) c.args.option.now) ∙ ap Some (sym copied), subst SpellsNone (sym copied) none))
+    (refl, c.requires, (sym (given ∙ first_value-rows (found_of c.args.matches.now) c.args.option.now) ∙ ap Some (sym copied), subst SpellsNone (sym copied) none))

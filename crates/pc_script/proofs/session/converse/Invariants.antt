@@ -1,6 +1,6 @@
 use Rattle.std.proofs.Common.{◌≤◌, ◌+◌, length}
 use Rattle.std.specs.Io.Buffered.{writer_contents}
-use Rattle.pc_pieces.specs.Pieces.{bytes_of}
+use Rattle.pc_script.specs.Inner.Pieces.{bytes_of}
 use Rattle.pc_script.specs.Inner.Talks.{CountsBytes, Keeps, talking}
 use Rattle.pc_script.specs.declared.session.TheConstants.{MOST_LINE}
 use Rattle.pc_script.proofs.session.converse.Given as goal

@@ -32,8 +32,8 @@ returns-in_err-plans c =
     record { cpus_is = c.in_ok-cpus.ensures; until_is = sym c.integer_or.ensures ∙ c.in-Some.is } in
     let fault = c.in_err-plans.field-0.0 in
     let is : c.from_residual-in_err-plans.result ≡ Err fault = search rules in
-    rw is (steps_told table c.in_ok-cpus.cpus c.in-Some.until (map told c.in_ok-threads.threads.items) fault keyed c.in_ok-threads.ensures.0 c.in_ok-choices.ensures.0
-    c.in_ok-threads.ensures.1 c.in_err-plans.ensures)
+    rw is (steps_told table c.in_ok-cpus.cpus c.in-Some.until (map told c.as_slice.result.now) fault keyed c.in_ok-threads.ensures.0 c.in_ok-choices.ensures.0
+    (ap (map told) c.as_slice.ensures.value ∙ c.in_ok-threads.ensures.1) c.in_err-plans.ensures)
 
 pub returns : goal.returns
 returns c =
@@ -41,7 +41,7 @@ returns c =
     let keyed : Keyed table c.in_ok-cpus.cpus c.in-Some.until =
     record { cpus_is = c.in_ok-cpus.ensures; until_is = sym c.integer_or.ensures ∙ c.in-Some.is } in
     let all = demand c.in_ok-cpus.cpus c.in-Some.until (map drafted c.in_ok-plans.plans.items) in
-    let found : Finds (asked_faults all (map choice_in c.as_slice.result.now)) (AreAsked all (map choice_in c.as_slice.result.now)) c.load_asked.result = search rules in
-    all_read table c.in_ok-cpus.cpus c.in-Some.until (map told c.in_ok-threads.threads.items) (map drafted c.in_ok-plans.plans.items) (map choice_in c.as_slice.result.now)
-    c.load_asked.result keyed c.in_ok-threads.ensures.0 c.in_ok-choices.ensures.0 c.in_ok-threads.ensures.1
-    c.in_ok-plans.ensures.0 c.in_ok-plans.ensures.1 (ap (map choice_in) c.as_slice.ensures.value ∙ c.in_ok-choices.ensures.1) found
+    let found : Finds (asked_faults all (map choice_in c.as_slice-2.result.now)) (AreAsked all (map choice_in c.as_slice-2.result.now)) c.load_asked.result = search rules in
+    all_read table c.in_ok-cpus.cpus c.in-Some.until (map told c.as_slice.result.now) (map drafted c.in_ok-plans.plans.items) (map choice_in c.as_slice-2.result.now)
+    c.load_asked.result keyed c.in_ok-threads.ensures.0 c.in_ok-choices.ensures.0 (ap (map told) c.as_slice.ensures.value ∙ c.in_ok-threads.ensures.1)
+    c.in_ok-plans.ensures.0 c.in_ok-plans.ensures.1 (ap (map choice_in) c.as_slice-2.ensures.value ∙ c.in_ok-choices.ensures.1) found

@@ -1,7 +1,7 @@
 use Rattle.std.proofs.Common.{◌≡◌, ◌⊎◌, [], ◌∷◌, Ok, Err, inl, inr, sym, ap, ◌∙◌, map, rules}
 use Rattle.std.proofs.lemmas.List.{map-append}
 use Rattle.pc_settings.specs.declared.runs.SettingsFault.TheVariants.{OutOfMemory}
-use Rattle.pc_settings.specs.Inner.RunKeys.{told}
+use Rattle.pc_settings.specs.Inner.SharedKeys.{told}
 use Rattle.pc_settings.specs.Inner.Readings.{each, read_draft}
 use Rattle.pc_settings.specs.Inner.Values.{table_in}
 use Rattle.pc_settings.proofs.Readings.{turn, stop}

@@ -3,8 +3,8 @@ use Rattle.std.proofs.lemmas.List.{map-append}
 use Rattle.pc_threads.specs.Settings.{Plan, plan_of}
 use Rattle.pc_threads.specs.declared.settings.plans.Step.{Step}
 use Rattle.pc_settings.specs.declared.runs.SettingsFault.TheVariants.{OutOfMemory}
-use Rattle.pc_settings.specs.declared.runs.thread_keys.ThreadKeys.{ThreadKeys}
-use Rattle.pc_settings.specs.Inner.RunKeys.{told}
+use Rattle.pc_settings.specs.declared.shared_keys.ThreadKeys.{ThreadKeys}
+use Rattle.pc_settings.specs.Inner.SharedKeys.{told}
 use Rattle.pc_settings.specs.Inner.Readings.{Read, and_then, each, read_plan}
 use Rattle.pc_settings.proofs.Readings.{turn, stop}
 use Rattle.pc_settings.proofs.runs.plans_of.Goals as goal

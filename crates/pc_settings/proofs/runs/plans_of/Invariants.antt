@@ -1,7 +1,7 @@
 use Rattle.std.proofs.Common.{◌≡◌, take, map, Ok}
 use Rattle.pc_threads.specs.Settings.{plan_of}
 use Rattle.pc_settings.specs.Inner.Readings.{each, read_plan}
-use Rattle.pc_settings.specs.Inner.RunKeys.{told}
+use Rattle.pc_settings.specs.Inner.SharedKeys.{told}
 use Rattle.pc_settings.proofs.runs.plans_of.Given as goal
 
 abbrev pub invariant-loop-thread : goal.invariant-loop-thread

@@ -7,9 +7,7 @@ use Rattle.pc_table.proofs.cells.push_waits.Goals as goal
 pub returns : goal.returns
 returns c =
     let layout = c.args.layout in
-    let front = c.args.front.now in
-    let parts = mapped_end (λ name. name_text layout (front ++ name)) (percentile_name c.args.which) (told c.args.percents) (sum_name c.args.which) in
-    c.in_ok-push_name.ensures ∙ ap (λ names. names ++ name_text layout (front ++ sum_name c.args.which) ∷ []) c.in_ok-push_percentiles.ensures
-    ∙ append_assoc c.args.names.now (map (λ percent. name_text layout (front ++ percentile_name c.args.which percent)) (told c.args.percents))
-    (name_text layout (front ++ sum_name c.args.which) ∷ [])
+    let parts = mapped_end (name_text layout) (percentile_name c.args.which) (told c.args.percents) (sum_name c.args.which) in
+    c.in_ok-push_name.ensures ∙ ap (λ names. names ++ name_text layout (sum_name c.args.which) ∷ []) c.in_ok-push_percentiles.ensures
+    ∙ append_assoc c.args.names.now (map (λ percent. name_text layout (percentile_name c.args.which percent)) (told c.args.percents)) (name_text layout (sum_name c.args.which) ∷ [])
     ∙ ap (λ more. c.args.names.now ++ more) (sym parts)

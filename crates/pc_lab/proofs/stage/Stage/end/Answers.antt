@@ -8,7 +8,7 @@ use Rattle.pc_lab.proofs.stage.Stage.end.Goals as goal
 pub returns : goal.returns
 returns g c =
     let run = c.self.invariant.0 c.if-self.false in
-    let shows = c.kernel-4.ensures run.plain run.shows in
+    let shows = c.kernel-3.ensures run.plain run.shows in
     record {
       each = run.each;
       same = run.same;
@@ -30,9 +30,8 @@ returns g c =
           ∙ ap (λ (kernel : Reads). unended_waits g.K.Setting.load run.moments kernel c.self.inside.tick) (c.kernel.ensures run.plain run.shows).reads;
       cpus = c.in_ok-times.ensures.many ∙ c.self.invariant.3;
       times = c.in_ok-times.ensures.whole;
-      shared = c.in_ok-check_account.ensures.shared;
-      adds_up = λ is. same_account c.args.load.now g.K.Setting.load c.args.keep g.K.Setting.keep (seen c.kernel-4.result.now) (shown run.plain.kernel) _ c.requires.load
+      adds_up = λ is. same_account c.args.load.now g.K.Setting.load c.args.keep g.K.Setting.keep (seen c.kernel-3.result.now) (shown run.plain.kernel) _ c.requires.load
           c.requires.keep shows.reads (c.in_ok-check_account.ensures.done is);
-      stalled = λ t is. same_stall c.args.load.now g.K.Setting.load (seen c.kernel-4.result.now) (shown run.plain.kernel) t c.requires.load shows.reads
+      stalled = λ t is. same_stall c.args.load.now g.K.Setting.load (seen c.kernel-3.result.now) (shown run.plain.kernel) t c.requires.load shows.reads
           (c.in_ok-check_account.ensures.stalled t is);
     }

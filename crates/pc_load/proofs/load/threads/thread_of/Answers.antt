@@ -1,5 +1,4 @@
 use Rattle.std.proofs.Common.{◌≡◌, pos, true, rules}
-use Rattle.std.specs.List.{list_all}
 use Rattle.pc_load.specs.declared.load.TheConstants.{MOST_LEVEL}
 use Rattle.pc_load.specs.Loads.{drafted, is_between, is_cpu, is_load, is_mask, is_thread, is_u32}
 use Rattle.pc_load.proofs.Parts.{thread_parts, load_parts}
@@ -17,22 +16,10 @@ bits_of-requires c =
     let mask : is_mask c.args.cpus c.args.draft.mask ≡ true = (thread_parts c.args.cpus (drafted c.args.draft) there).mask in
     search rules
 
-pub sleeps_of-requires : goal.sleeps_of-requires
-sleeps_of-requires c =
-    let loaded : is_load (pos c.args.before) (drafted c.args.draft) ≡ true = search rules in
-    let sleeps : list_all is_u32 c.args.draft.sleeps.items ≡ true = (load_parts (pos c.args.before) (drafted c.args.draft) loaded).sleeps in
-    search rules
-
 pub u32_of-requires : goal.u32_of-requires
 u32_of-requires c =
     let loaded : is_load (pos c.args.before) (drafted c.args.draft) ≡ true = search rules in
     let start : is_u32 c.args.draft.start ≡ true = (load_parts (pos c.args.before) (drafted c.args.draft) loaded).start in
-    search rules
-
-pub u32_of-requires-2 : goal.u32_of-requires-2
-u32_of-requires-2 c =
-    let loaded : is_load (pos c.args.before) (drafted c.args.draft) ≡ true = search rules in
-    let pid : is_u32 c.args.draft.pid ≡ true = (load_parts (pos c.args.before) (drafted c.args.draft) loaded).pid in
     search rules
 
 pub level_of-requires : goal.level_of-requires

@@ -15,7 +15,6 @@ plain command.Draw = refl
 plain command.Run = refl
 plain command.Session = refl
 plain command.Lab = refl
-plain command.Import = refl
 
 pub returns : goal.returns
 returns c =

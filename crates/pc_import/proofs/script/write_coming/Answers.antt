@@ -1,4 +1,0 @@
-use Rattle.pc_import.proofs.script.write_coming.Goals as goal
-
-pub returns-in-Ok : goal.returns-in-Ok
-returns-in-Ok c = rw c.index-cpu.ensures at (rw c.index-thread.ensures at c.in-Ok.ensures.bytes)

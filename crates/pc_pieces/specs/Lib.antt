@@ -1,2 +1,0 @@
--- A text that is read in pieces.
-pub mod Pieces

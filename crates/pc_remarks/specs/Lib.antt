@@ -1,2 +1,0 @@
--- What some comments of a script tell beside the commands.
-pub mod Remarks
